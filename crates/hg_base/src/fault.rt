@@ -1,0 +1,68 @@
+ghost use Rattle.std.specs.Prelude.{◌≡◌};
+ghost use Rattle.hg_base.specs.Fault.{number_of};
+
+use std::alloc::{AllocError, AllocFailed};
+
+/// A read or a write of the outside failed.
+#[derive(Clone, Copy, Debug, PartialEq, Eq)]
+pub struct Failed;
+
+/// There was no memory left for what the call needs.
+#[derive(Clone, Copy, Debug, PartialEq, Eq)]
+pub struct OutOfMemory;
+
+/// What can be wrong with an input.
+#[derive(Clone, Copy, Debug, PartialEq, Eq)]
+pub enum FaultKind {
+    UnknownForm,
+    BadNumber,
+    TooLarge,
+    Truncated,
+    Trailing,
+    OutOfRange,
+    Loop,
+    NoVertex,
+    SampleAboveMax,
+    TooLong,
+    NotAPicture,
+    TooManyTiles,
+    TooManyLabels,
+}
+
+impl FaultKind {
+    /// The kind's number in fault lines.
+    pub fn number(&self) -> u8
+        ensures { result ≡ number_of self.now }
+    {
+        match self {
+            FaultKind::UnknownForm => 1,
+            FaultKind::BadNumber => 2,
+            FaultKind::TooLarge => 3,
+            FaultKind::Truncated => 4,
+            FaultKind::Trailing => 5,
+            FaultKind::OutOfRange => 6,
+            FaultKind::Loop => 7,
+            FaultKind::NoVertex => 8,
+            FaultKind::SampleAboveMax => 9,
+            FaultKind::TooLong => 10,
+            FaultKind::NotAPicture => 11,
+            FaultKind::TooManyTiles => 12,
+            FaultKind::TooManyLabels => 14,
+        }
+    }
+}
+
+/// A fault of an input: its kind, its place in bytes from the start of the input, and the number that it is about.
+#[derive(Clone, Copy, Debug, PartialEq, Eq)]
+pub struct InputFault {
+    pub kind: FaultKind,
+    pub at: u64,
+    pub value: u64,
+}
+
+/// Why an input wasn't read.
+#[derive(Clone, Copy, Debug, PartialEq, Eq)]
+pub enum ReadError {
+    Fault(InputFault),
+    OutOfMemory,
+}

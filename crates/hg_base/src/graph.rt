@@ -1,0 +1,98 @@
+ghost use Rattle.std.specs.Prelude.{◌≡◌, ℕ, ◌<◌, ◌≤◌, length, slice_get, Some};
+ghost use Rattle.hg_base.specs.Graph.{IsGraph, JoinsTwo, with_unit_areas};
+
+use std::marker::Model;
+
+/// An edge of a graph: its two ends and its weight. Its number is its place in the graph's list.
+#[derive(Clone, Copy, Debug, PartialEq, Eq)]
+pub struct Edge {
+    pub u: u32,
+    pub v: u32,
+    pub w: u32,
+}
+
+/// An edge and its rank: the number of edges that come before it by weight, then by number.
+#[derive(Clone, Copy, Debug, PartialEq, Eq)]
+pub struct RankedEdge {
+    pub rank: u32,
+    pub u: u32,
+    pub v: u32,
+    pub w: u32,
+}
+
+/// An edge between two places of a part, with its rank.
+#[derive(Clone, Copy, Debug, PartialEq, Eq)]
+pub struct PlacedEdge {
+    pub rank: u32,
+    pub a: u32,
+    pub b: u32,
+}
+
+/// How many places and how many tiles a part can grow to.
+#[derive(Clone, Copy, Debug, PartialEq, Eq)]
+pub struct Room {
+    pub places: u32,
+    pub chunks: u32,
+}
+
+/// A graph with weighted edges and an area for each vertex. It is never empty: it has from 1 to
+/// 1,048,576 vertices and at most 4,194,304 edges, whose ends are two different vertices.
+#[derive(Drop)]
+pub struct Graph {
+    n: u32,
+    // Where there are none, each area is 1.
+    areas: Option<Vec<u32>>,
+    edges: Vec<Edge>,
+}
+
+impl Model for Graph {
+    ghost use Rattle.hg_base.specs.Graph.{WeightedGraph};
+
+    ghost Value = { WeightedGraph };
+
+    ghost use Rattle.hg_base.specs.GraphFields.{graph_of, IsGraph};
+
+    ghost view = { graph_of };
+
+    ghost invariant = { λ g. IsGraph (graph_of g) };
+}
+
+impl Graph {
+    /// The graph with these edges, in which each vertex has the area 1.
+    pub fn new(n: u32, edges: Vec<Edge>) -> Graph
+        requires { IsGraph (with_unit_areas n edges.items) }
+        ensures { result ≡ with_unit_areas n edges.items }
+    {
+        Graph {
+            n,
+            areas: None,
+            edges,
+        }
+    }
+
+    /// The number of vertices.
+    pub fn n(&self) -> u32
+        ensures value { result ≡ self.now.n }
+        ensures some_vertex { 1 ≤ result }
+        ensures vertices { result ≤ 1048576 }
+    {
+        self.n
+    }
+
+    /// The number of edges.
+    pub fn m(&self) -> u32
+        ensures value { result ≡ length self.now.edges }
+        ensures edges { result ≤ 4194304 }
+    {
+        self.edges.len() as u32
+    }
+
+    /// The edge with this number.
+    pub fn edge(&self, e: u32) -> Edge
+        requires { e < length self.now.edges }
+        ensures value { slice_get self.now.edges e ≡ Some result }
+        ensures ends { JoinsTwo self.now.n result }
+    {
+        self.edges[e as usize]
+    }
+}

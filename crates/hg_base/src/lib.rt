@@ -1,0 +1,8 @@
+//! Graphs, faults, the outside of a run, and the definitions and laws that every crate above cites.
+#![tactic(auto)]
+
+mod fault;
+mod graph;
+
+pub use fault::{Failed, FaultKind, InputFault, OutOfMemory, ReadError};
+pub use graph::{Edge, Graph, PlacedEdge, RankedEdge, Room};

@@ -33,3 +33,10 @@ with_unit_areas n edges = record { n = n; areas = replicate n 1; edges = edges }
 -- the weight of edge number e, or 0 where there is no such edge
 abbrev pub weight : WeightedGraph → ℕ → ℕ
 weight g e = option_map_or (λ x. x.w) (slice_get g.edges e) 0
+
+-- the ends of edge number e, or 0 where there is no such edge
+abbrev pub first_end : WeightedGraph → ℕ → ℕ
+first_end g e = option_map_or (λ x. x.u) (slice_get g.edges e) 0
+
+abbrev pub second_end : WeightedGraph → ℕ → ℕ
+second_end g e = option_map_or (λ x. x.v) (slice_get g.edges e) 0

@@ -3,6 +3,8 @@
 
 mod fault;
 mod graph;
+#[cfg(test)]
+mod worked;
 
 pub use fault::{Failed, FaultKind, InputFault, OutOfMemory, ReadError};
 pub use graph::{Edge, Graph, PlacedEdge, RankedEdge, Room};

@@ -1,3 +1,4 @@
 pub mod Graph
 pub mod GraphFields
 pub mod Fault
+pub mod Outside

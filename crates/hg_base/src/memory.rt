@@ -193,7 +193,12 @@ impl Model for MemSink {
 impl MemSink {
     /// The empty sink that takes `room` bytes in all, and at most `largest` in a write. The writes
     /// whose numbers, from 1, stand in `fails` fail.
-    pub fn with_room(alloc: Global, room: usize, largest: usize, fails: Vec<u64>) -> Result<MemSink, OutOfMemory>
+    pub fn with_room(
+        alloc: Global,
+        room: usize,
+        largest: usize,
+        fails: Vec<u64>,
+    ) -> Result<MemSink, OutOfMemory>
         requires { 1 ≤ largest }
         ensures { IfOk result (λ sink. sink ≡ record { content = []; room = room; largest = largest; calls = first_calls fails.items }) }
     {
@@ -235,7 +240,10 @@ impl Sink for MemSink {
             (λ n. self.new ≡ record self.old { content = self.old.content ++ take n piece.now; calls = served self.old.calls })
             (λ _. self.new ≡ record self.old { calls = failed self.old.calls }) }
     {
-        let count = self.largest.min(piece.len()).min(self.room - self.bytes.len());
+        let count = self
+            .largest
+            .min(piece.len())
+            .min(self.room - self.bytes.len());
         if self.calls.begin() || (count == 0 && !piece.is_empty()) {
             return Err(self.calls.fail());
         }

@@ -72,3 +72,6 @@ pub(crate) fn copy_front(from: &[u8], count: usize, into: &mut [u8])
 {
     into[..count].copy_from_slice(&from[..count]);
 }
+
+#[cfg(test)]
+mod tests;

@@ -1,5 +1,5 @@
 -- Lemmas on reads and writes of the outside.
-use Rattle.std.proofs.Common.{◌≡◌, ℕ, ◌+◌, ◌-◌, ◌≤◌, min, List, [], ◌++◌, Option, length, take, drop, arith, sym, ap, ◌∙◌, subst, drop_of_length-le, take-append-drop, length-drop}
+use Rattle.std.proofs.Common.{◌≡◌, ℕ, ◌+◌, ◌-◌, List, ◌++◌, Option, length, take, drop, sym, ap, ◌∙◌, subst, take-append-drop}
 use Rattle.std.proofs.Math.Seq.{take-add}
 use Rattle.std.proofs.lemmas.List.{take_rest, drop-drop}
 use Rattle.std.proofs.KnownBytes.{Appends-trans}
@@ -18,9 +18,3 @@ pub moved-rest : (bytes seen into : List ℕ) (at n : ℕ) → seen ≡ bytes �
 moved-rest bytes seen into at n same e =
     let front : take n into ≡ take n (drop at bytes) = e ∙ ap (take n) (take_rest seen at) ∙ ap (λ bs. take n (drop at bs)) same in
     rw front (sym (take-append-drop n (drop at bytes)) ∙ ap (λ rest. take n (drop at bytes) ++ rest) (drop-drop n at bytes))
-
--- a read that might have moved a byte and moved none found none
-pub none-left : (bytes seen : List ℕ) (at most n : ℕ) → seen ≡ bytes → n ≡ min most (length (take (length seen - at) (drop at seen))) → n ≡ 0 → 1 ≤ most → drop (at + n) bytes ≡ []
-none-left bytes seen at most n same count none some =
-    let long : length seen ≤ at = omega (arith, ap length (take_rest seen at), length-drop at seen) in
-    drop_of_length-le bytes (omega (arith, ap length same))

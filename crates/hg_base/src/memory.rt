@@ -54,25 +54,62 @@ impl Calls {
     }
 }
 
+// Bytes that are given away from the front.
+#[derive(Drop)]
+struct Remaining {
+    bytes: Vec<u8>,
+    at: usize,
+}
+
+impl Model for Remaining {
+    ghost use Rattle.std.specs.Prelude.{ℕ, ◌≤◌, List, drop, vec_len};
+
+    ghost Value = { List ℕ };
+
+    ghost view = { λ r. drop r.at r.bytes.items };
+
+    ghost invariant = { λ r. r.at ≤ vec_len r.bytes };
+}
+
+impl Remaining {
+    fn new(bytes: Vec<u8>) -> Remaining
+        ensures { result ≡ bytes.items }
+    {
+        Remaining { bytes, at: 0 }
+    }
+
+    // Moves the first bytes to the front of `into`, and no more than `most` of them.
+    fn give(&mut self, most: usize, into: &mut [u8]) -> usize
+        ensures count { result ≡ min (min most (length into.old)) (length self.old) }
+        ensures moved { self.old ≡ take result into.new ++ self.new }
+        ensures kept { drop result into.new ≡ drop result into.old }
+    {
+        let left = &self.bytes[self.at..];
+        let count = most.min(into.len()).min(left.len());
+        copy_front(left, count, into);
+        self.at += count;
+        count
+    }
+}
+
 /// A source over bytes in memory, of which a read gives no more than a given number, and whose
 /// reads with given numbers fail.
 #[derive(Drop)]
 pub struct MemSource {
-    bytes: Vec<u8>,
-    at: usize,
+    left: Remaining,
     largest: usize,
     calls: Calls,
 }
 
 impl Model for MemSource {
-    ghost use Rattle.std.specs.Prelude.{◌≤◌, drop, vec_len};
+    ghost use Rattle.std.specs.Prelude.{◌≤◌};
     ghost use Rattle.hg_base.specs.Outside.{Supply};
 
     ghost Value = { Supply };
 
-    ghost view = { λ s. record { left = drop s.at s.bytes.items; largest = s.largest; calls = s.calls } };
+    ghost view = { λ s. record { left = s.left; largest = s.largest; calls = s.calls } };
 
-    ghost invariant = { λ s. (s.at ≤ vec_len s.bytes) × (1 ≤ s.largest) };
+    ghost invariant = { λ s. 1 ≤ s.largest };
 }
 
 impl MemSource {
@@ -83,8 +120,7 @@ impl MemSource {
         ensures { result ≡ record { left = bytes.items; largest = largest; calls = first_calls fails.items } }
     {
         MemSource {
-            bytes,
-            at: 0,
+            left: Remaining::new(bytes),
             largest,
             calls: Calls::new(fails),
         }
@@ -113,29 +149,22 @@ impl Source for MemSource {
         if self.calls.begin() {
             return Err(self.calls.fail());
         }
-        let left = &self.bytes[self.at..];
-        let count = self.largest.min(into.len()).min(left.len());
-        copy_front(left, count, into);
-        self.at += count;
-        Ok(count)
+        Ok(self.left.give(self.largest, into))
     }
 }
 
 /// A source over bytes in memory whose reads never fail.
 #[derive(Drop)]
 pub struct QuietSource {
-    bytes: Vec<u8>,
-    at: usize,
+    left: Remaining,
 }
 
 impl Model for QuietSource {
-    ghost use Rattle.std.specs.Prelude.{ℕ, ◌≤◌, List, drop, vec_len};
+    ghost use Rattle.std.specs.Prelude.{ℕ, List};
 
     ghost Value = { List ℕ };
 
-    ghost view = { λ s. drop s.at s.bytes.items };
-
-    ghost invariant = { λ s. s.at ≤ vec_len s.bytes };
+    ghost view = { λ s. s.left };
 }
 
 impl QuietSource {
@@ -143,7 +172,9 @@ impl QuietSource {
     pub fn new(bytes: Vec<u8>) -> QuietSource
         ensures { result ≡ bytes.items }
     {
-        QuietSource { bytes, at: 0 }
+        QuietSource {
+            left: Remaining::new(bytes),
+        }
     }
 }
 
@@ -161,11 +192,7 @@ impl Source for QuietSource {
 
         ensures gives { result ≡ Ok (min (length into.old) (length self.old)) }
     {
-        let left = &self.bytes[self.at..];
-        let count = into.len().min(left.len());
-        copy_front(left, count, into);
-        self.at += count;
-        Ok(count)
+        Ok(self.left.give(into.len(), into))
     }
 }
 

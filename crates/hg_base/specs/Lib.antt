@@ -6,3 +6,4 @@ pub mod Tree
 pub mod Worked
 pub mod Text
 pub mod Fault
+pub mod Outside

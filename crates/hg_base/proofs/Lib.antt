@@ -1,3 +1,4 @@
 pub mod Link
 pub mod Members
 pub mod Walks
+pub mod Sets

@@ -2,3 +2,4 @@ pub mod Link
 pub mod Members
 pub mod Walks
 pub mod Sets
+pub mod Fronts

@@ -3,3 +3,4 @@ pub mod Members
 pub mod Walks
 pub mod Sets
 pub mod Fronts
+pub mod Leaving

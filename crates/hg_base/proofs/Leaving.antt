@@ -29,7 +29,7 @@ link-same r same a b x y h =
       (λ k. link-old r a b x y k)
 
 -- a vertex that is joined to neither of the two keeps its row
-link-elsewhere : (r : ℕ → ℕ → Bool) (a b x y : ℕ) → r x a ≡ false → r x b ≡ false → link r a b x y ≡ r x y
+pub link-elsewhere : (r : ℕ → ℕ → Bool) (a b x y : ℕ) → r x a ≡ false → r x b ≡ false → link r a b x y ≡ r x y
 link-elsewhere r a b x y ha hb = rw (ha, hb) (or-nothing (r x y))
   where
     or-nothing : (p : Bool) → (p || (false || false)) ≡ p
@@ -37,7 +37,7 @@ link-elsewhere r a b x y ha hb = rw (ha, hb) (or-nothing (r x y))
     or-nothing false = refl
 
 -- a vertex that is joined to one of the two gets the rows of both
-link-both : (r : ℕ → ℕ → Bool) → IsSame r → (a b x y : ℕ) → r a b ≡ false → (r x a || r x b) ≡ true → link r a b x y ≡ (r a y || r b y)
+pub link-both : (r : ℕ → ℕ → Bool) → IsSame r → (a b x y : ℕ) → r a b ≡ false → (r x a || r x b) ≡ true → link r a b x y ≡ (r a y || r b y)
 link-both r same a b x y apart h =
     same_test (link r a b x y) (r a y || r b y)
       (λ k. grind (arith, link_cases r a b x y k, same.on, same.back, h))
@@ -59,7 +59,7 @@ xor-or false false true false h k = refl
 xor-or false false false true h k = refl
 xor-or false false false false h k = refl
 
-and_both : (p q : Bool) → (p && q) ≡ true → (p ≡ true) × (q ≡ true)
+pub and_both : (p q : Bool) → (p && q) ≡ true → (p ≡ true) × (q ≡ true)
 and_both true true h = (refl, refl)
 and_both true false h = absurd (true≢false (sym h))
 and_both false q h = absurd (true≢false (sym h))
@@ -71,7 +71,7 @@ apart-rows r same a b u h =
       (λ k. let p = and_both (r a u) (r b u) k in sym h ∙ same.on a u b p.0 (same.back b u p.1))
       (λ k. absurd (true≢false (sym k)))
 
-or_neither : (p q : Bool) → (p || q) ≡ false → (p ≡ false) × (q ≡ false)
+pub or_neither : (p q : Bool) → (p || q) ≡ false → (p ≡ false) × (q ≡ false)
 or_neither true q h = absurd (true≢false h)
 or_neither false q h = (refl, h)
 
@@ -104,14 +104,14 @@ not-or : (p q : Bool) → not (p || q) ≡ (not p && not q)
 not-or true q = refl
 not-or false q = refl
 
-xor_cases : (p q : Bool) → xor p q ≡ true → ((p ≡ true) × (q ≡ false)) ⊎ ((p ≡ false) × (q ≡ true))
+pub xor_cases : (p q : Bool) → xor p q ≡ true → ((p ≡ true) × (q ≡ false)) ⊎ ((p ≡ false) × (q ≡ true))
 xor_cases true true h = absurd (true≢false (sym h))
 xor_cases true false h = inl (refl, refl)
 xor_cases false true h = inr (refl, refl)
 xor_cases false false h = absurd (true≢false (sym h))
 
 -- whom b is joined to, a isn't
-not_both : (r : ℕ → ℕ → Bool) → IsSame r → (a b y : ℕ) → r a b ≡ false → r b y ≡ true → r a y ≡ false
+pub not_both : (r : ℕ → ℕ → Bool) → IsSame r → (a b y : ℕ) → r a b ≡ false → r b y ≡ true → r a y ≡ false
 not_both r same a b y apart h =
     same_test (r a y) false (λ k. sym apart ∙ same.on a y b k (same.back b y h)) (λ k. absurd (true≢false (sym k)))
 

@@ -4,3 +4,5 @@ pub mod Walks
 pub mod Sets
 pub mod Fronts
 pub mod Leaving
+pub mod Next
+pub mod Splice

@@ -1,6 +1,6 @@
 -- Edge lists: who is joined, which edges join, and the chain of a vertex (Najman, Cousty and Perret 2013).
 -- The edges of a list have different ranks; each has two ends, and a weight and a number where a definition reads them.
-use Rattle.std.specs.Prelude.{◌≡◌, ◌==◌, ℕ, ◌<◌, Bool, not, ◌&&◌, ◌||◌, ◌⊎◌, List, [], ◌∷◌, filter, nat_lt, nat_le, Option, Some, None, if◌then◌else◌}
+use Rattle.std.specs.Prelude.{◌≡◌, ◌==◌, ℕ, ◌+◌, ◌<◌, Bool, not, ◌&&◌, ◌||◌, ◌⊎◌, List, [], ◌∷◌, filter, nat_lt, nat_le, Option, Some, None, if◌then◌else◌}
 use Rattle.std.specs.List.{range_with_len}
 
 -- an edge of an edge list
@@ -92,3 +92,10 @@ first_edge (e ∷ s) = Some e
 -- the first edge of rank k or more on the chain of x
 abbrev pub next : EdgeList → ℕ → ℕ → Option ListedEdge
 next s x k = first_edge (filter (λ e. nat_le k e.rank) (chain s x))
+
+-- what comes next after two chains are merged: the edge of lower rank; where both have one edge next, it joins
+-- nothing any more, and what comes after it is next
+abbrev pub merged : EdgeList → Option ListedEdge → Option ListedEdge → Option ListedEdge
+merged s None q = q
+merged s (Some f) None = Some f
+merged s (Some f) (Some g) = if nat_lt f.rank g.rank then Some f else (if nat_lt g.rank f.rank then Some g else next s f.u (f.rank + 1))

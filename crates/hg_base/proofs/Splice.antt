@@ -1,0 +1,46 @@
+-- The splice: what comes next on each chain after an edge e of any rank is taken in.
+use Rattle.std.proofs.Common.{◌≡◌, ℕ, zero, suc, ◌+◌, ◌<◌, ◌≤◌, Bool, true, false, cond, ◌⊎◌, inl, inr, refl, sym, ◌∙◌, subst, ap, arith, List, [], ◌∷◌}
+use Rattle.std.specs.Prelude.{not, ◌&&◌, ◌||◌, filter, nat_le, nat_lt, Option, Some, None}
+use Rattle.std.proofs.lemmas.Bool.{cases_Bool, cases_order, le-ltb, lt-ltb, or_left, or_right, or_cases, true≢false}
+use Rattle.hg_base.specs.Edges.{ListedEdge, EdgeList, IsIn, AreApart, joined, below, link, is_joining, next, merged}
+use Rattle.hg_base.proofs.Link.{IsSame}
+use Rattle.hg_base.proofs.Walks.{IsSame-joined, joined-ends}
+use Rattle.hg_base.proofs.Sets.{same_test, joined_below-more}
+use Rattle.hg_base.proofs.Members.{IsIn-below}
+use Rattle.hg_base.proofs.Leaving.{xor, leaves, row-same, xor-link, link-same, or_neither, xor_cases, joins-link}
+use Rattle.hg_base.proofs.Next.{IsFirst, IsFirst-one, next-first, component-stays}
+
+-- up to e's rank the edges of lower rank are as before
+below-low : (e : ListedEdge) (s : EdgeList) (k : ℕ) → k ≤ e.rank → below (e ∷ s) k ≡ below s k
+below-low e s k h = rw (le-ltb e.rank k h) refl
+
+-- above e's rank they have e besides
+below-high : (e : ListedEdge) (s : EdgeList) (k : ℕ) → e.rank < k → below (e ∷ s) k ≡ e ∷ below s k
+below-high e s k h = rw (lt-ltb e.rank k h) refl
+
+joined-low : (e : ListedEdge) (s : EdgeList) (k x y : ℕ) → k ≤ e.rank → joined (below (e ∷ s) k) x y ≡ joined (below s k) x y
+joined-low e s k x y h = ap (λ (t : EdgeList). joined t x y) (below-low e s k h)
+
+joined-high : (e : ListedEdge) (s : EdgeList) (k x y : ℕ) → e.rank < k →
+  joined (below (e ∷ s) k) x y ≡ link (joined (below s k)) e.u e.v x y
+joined-high e s k x y h = ap (λ (t : EdgeList). joined t x y) (below-high e s k h)
+
+-- an edge of no higher rank leaves where it did
+leaves-low : (e : ListedEdge) (s : EdgeList) (x : ℕ) (f : ListedEdge) → f.rank ≤ e.rank → leaves (e ∷ s) x f ≡ leaves s x f
+leaves-low e s x f h = rw (joined-low e s f.rank x f.u h, joined-low e s f.rank x f.v h) refl
+
+-- an edge of higher rank leaves where it did, where the ends of e were joined by then
+leaves-joined : (e : ListedEdge) (s : EdgeList) (x : ℕ) (f : ListedEdge) → e.rank < f.rank → joined (below s f.rank) e.u e.v ≡ true →
+  leaves (e ∷ s) x f ≡ leaves s x f
+leaves-joined e s x f h j =
+    let r = joined (below s f.rank) in
+    let same = IsSame-joined (below s f.rank) in
+    rw (joined-high e s f.rank x f.u h, joined-high e s f.rank x f.v h, link-same r same e.u e.v x f.u j, link-same r same e.u e.v x f.v j) refl
+
+-- what leaves a component that e joins to another: what left one of the two
+leaves-apart : (e : ListedEdge) (s : EdgeList) (x : ℕ) (f : ListedEdge) → e.rank < f.rank → joined (below s f.rank) e.u e.v ≡ false →
+  leaves (e ∷ s) x f ≡ cond (joined (below s f.rank) x e.u || joined (below s f.rank) x e.v) (xor (leaves s e.u f) (leaves s e.v f)) (leaves s x f)
+leaves-apart e s x f h j =
+    ap (λ (p : Bool). xor p (joined (below (e ∷ s) f.rank) x f.v)) (joined-high e s f.rank x f.u h)
+    ∙ ap (λ (q : Bool). xor (link (joined (below s f.rank)) e.u e.v x f.u) q) (joined-high e s f.rank x f.v h)
+    ∙ xor-link (joined (below s f.rank)) (IsSame-joined (below s f.rank)) e.u e.v x f.u f.v j

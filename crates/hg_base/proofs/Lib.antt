@@ -5,4 +5,5 @@ pub mod Sets
 pub mod Fronts
 pub mod Leaving
 pub mod Next
+pub mod Firsts
 pub mod Splice

@@ -9,6 +9,7 @@ use Rattle.hg_base.proofs.Sets.{same_test, joined_below-more}
 use Rattle.hg_base.proofs.Members.{IsIn-below}
 use Rattle.hg_base.proofs.Leaving.{xor, leaves, row-same, xor-link, link-same, or_neither, xor_cases, joins-link}
 use Rattle.hg_base.proofs.Next.{IsFirst, IsFirst-one, next-first, component-stays}
+use Rattle.hg_base.proofs.Firsts.{IsUpTo, IsBefore, first-quiet, first-agree, first-more, first-lower, first-higher}
 
 -- up to e's rank the edges of lower rank are as before
 below-low : (e : ListedEdge) (s : EdgeList) (k : ℕ) → k ≤ e.rank → below (e ∷ s) k ≡ below s k
@@ -44,3 +45,34 @@ leaves-apart e s x f h j =
     ap (λ (p : Bool). xor p (joined (below (e ∷ s) f.rank) x f.v)) (joined-high e s f.rank x f.u h)
     ∙ ap (λ (q : Bool). xor (link (joined (below s f.rank)) e.u e.v x f.u) q) (joined-high e s f.rank x f.v h)
     ∙ xor-link (joined (below s f.rank)) (IsSame-joined (below s f.rank)) e.u e.v x f.u f.v j
+
+-- Where e's ends were joined by rank k, nothing changes from there on.
+pub next-joined : (e : ListedEdge) (s : EdgeList) → AreApart (e ∷ s) → (x k : ℕ) → e.rank < k → joined (below s k) e.u e.v ≡ true →
+  next (e ∷ s) x k ≡ next s x k
+next-joined e s h x k low j =
+    IsFirst-one (leaves (e ∷ s) x) (e ∷ s) h k _ _ (next-first (e ∷ s) h x k)
+      (first-more (leaves (e ∷ s) x) e s k (next s x k) low
+        (first-agree (leaves s x) (leaves (e ∷ s) x) s k (next s x k)
+          (λ f i up to. leaves-joined e s x f (omega arith) (joined_below-more s k f.rank e.u e.v up j))
+          (next-first s h.1 x k)))
+
+-- A vertex that is joined to neither end by rank k has the same edge next.
+pub next-elsewhere : (e : ListedEdge) (s : EdgeList) → AreApart (e ∷ s) → (x k : ℕ) → e.rank < k →
+  joined (below s k) x e.u ≡ false → joined (below s k) x e.v ≡ false → next (e ∷ s) x k ≡ next s x k
+next-elsewhere e s h x k low nu nv =
+    IsFirst-one (leaves (e ∷ s) x) (e ∷ s) h k _ _ (next-first (e ∷ s) h x k)
+      (first-more (leaves (e ∷ s) x) e s k (next s x k) low
+        (first-agree (leaves s x) (leaves (e ∷ s) x) s k (next s x k) agree (next-first s h.1 x k)))
+  where
+    before_up_to : (o : Option ListedEdge) (m n : ℕ) → m < n → IsUpTo o n → IsBefore o m
+    before_up_to None m n lt to = tt
+    before_up_to (Some g) m n lt to = omega arith
+    stays : (f : ListedEdge) → k ≤ f.rank → IsUpTo (next s x k) f.rank → (y : ℕ) → joined (below s f.rank) x y ≡ joined (below s k) x y
+    stays f up to y = component-stays s h.1 k f.rank x y up
+      (λ g i low' top. first-quiet (leaves s x) s k (next s x k) (next-first s h.1 x k) g i low' (before_up_to (next s x k) g.rank f.rank top to))
+    agree : (f : ListedEdge) → IsIn f s → k ≤ f.rank → IsUpTo (next s x k) f.rank → leaves (e ∷ s) x f ≡ leaves s x f
+    agree f i up to =
+      elim (cases_Bool (joined (below s f.rank) e.u e.v))
+        [ inl j ↦ leaves-joined e s x f (omega arith) j
+        | inr j ↦ leaves-apart e s x f (omega arith) j
+            ∙ rw (stays f up to e.u ∙ nu, stays f up to e.v ∙ nv) refl ]

@@ -7,3 +7,4 @@ pub mod Leaving
 pub mod Next
 pub mod Firsts
 pub mod Splice
+pub mod Merged

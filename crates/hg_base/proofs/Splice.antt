@@ -12,26 +12,26 @@ use Rattle.hg_base.proofs.Next.{IsFirst, IsFirst-one, next-first, component-stay
 use Rattle.hg_base.proofs.Firsts.{IsUpTo, IsBefore, first-quiet, first-agree, first-more, first-lower, first-higher}
 
 -- up to e's rank the edges of lower rank are as before
-below-low : (e : ListedEdge) (s : EdgeList) (k : ℕ) → k ≤ e.rank → below (e ∷ s) k ≡ below s k
+pub below-low : (e : ListedEdge) (s : EdgeList) (k : ℕ) → k ≤ e.rank → below (e ∷ s) k ≡ below s k
 below-low e s k h = rw (le-ltb e.rank k h) refl
 
 -- above e's rank they have e besides
-below-high : (e : ListedEdge) (s : EdgeList) (k : ℕ) → e.rank < k → below (e ∷ s) k ≡ e ∷ below s k
+pub below-high : (e : ListedEdge) (s : EdgeList) (k : ℕ) → e.rank < k → below (e ∷ s) k ≡ e ∷ below s k
 below-high e s k h = rw (lt-ltb e.rank k h) refl
 
-joined-low : (e : ListedEdge) (s : EdgeList) (k x y : ℕ) → k ≤ e.rank → joined (below (e ∷ s) k) x y ≡ joined (below s k) x y
+pub joined-low : (e : ListedEdge) (s : EdgeList) (k x y : ℕ) → k ≤ e.rank → joined (below (e ∷ s) k) x y ≡ joined (below s k) x y
 joined-low e s k x y h = ap (λ (t : EdgeList). joined t x y) (below-low e s k h)
 
-joined-high : (e : ListedEdge) (s : EdgeList) (k x y : ℕ) → e.rank < k →
+pub joined-high : (e : ListedEdge) (s : EdgeList) (k x y : ℕ) → e.rank < k →
   joined (below (e ∷ s) k) x y ≡ link (joined (below s k)) e.u e.v x y
 joined-high e s k x y h = ap (λ (t : EdgeList). joined t x y) (below-high e s k h)
 
 -- an edge of no higher rank leaves where it did
-leaves-low : (e : ListedEdge) (s : EdgeList) (x : ℕ) (f : ListedEdge) → f.rank ≤ e.rank → leaves (e ∷ s) x f ≡ leaves s x f
+pub leaves-low : (e : ListedEdge) (s : EdgeList) (x : ℕ) (f : ListedEdge) → f.rank ≤ e.rank → leaves (e ∷ s) x f ≡ leaves s x f
 leaves-low e s x f h = rw (joined-low e s f.rank x f.u h, joined-low e s f.rank x f.v h) refl
 
 -- an edge of higher rank leaves where it did, where the ends of e were joined by then
-leaves-joined : (e : ListedEdge) (s : EdgeList) (x : ℕ) (f : ListedEdge) → e.rank < f.rank → joined (below s f.rank) e.u e.v ≡ true →
+pub leaves-joined : (e : ListedEdge) (s : EdgeList) (x : ℕ) (f : ListedEdge) → e.rank < f.rank → joined (below s f.rank) e.u e.v ≡ true →
   leaves (e ∷ s) x f ≡ leaves s x f
 leaves-joined e s x f h j =
     let r = joined (below s f.rank) in
@@ -39,7 +39,7 @@ leaves-joined e s x f h j =
     rw (joined-high e s f.rank x f.u h, joined-high e s f.rank x f.v h, link-same r same e.u e.v x f.u j, link-same r same e.u e.v x f.v j) refl
 
 -- what leaves a component that e joins to another: what left one of the two
-leaves-apart : (e : ListedEdge) (s : EdgeList) (x : ℕ) (f : ListedEdge) → e.rank < f.rank → joined (below s f.rank) e.u e.v ≡ false →
+pub leaves-apart : (e : ListedEdge) (s : EdgeList) (x : ℕ) (f : ListedEdge) → e.rank < f.rank → joined (below s f.rank) e.u e.v ≡ false →
   leaves (e ∷ s) x f ≡ cond (joined (below s f.rank) x e.u || joined (below s f.rank) x e.v) (xor (leaves s e.u f) (leaves s e.v f)) (leaves s x f)
 leaves-apart e s x f h j =
     ap (λ (p : Bool). xor p (joined (below (e ∷ s) f.rank) x f.v)) (joined-high e s f.rank x f.u h)

@@ -75,3 +75,11 @@ pub first-higher : (p : ListedEdge → Bool) (s : EdgeList) (k j : ℕ) (o : Opt
 first-higher p s k j None up to h = λ f i t. (let low : f.rank < k = h f i t in omega arith)
 first-higher p s k j (Some g) up to h =
     ((h.0.0, (h.0.1.0, to)), λ f i t low. h.1 f i t (omega arith))
+
+-- an edge of a rank above the first isn't the first
+pub first-before : (p : ListedEdge → Bool) (e : ListedEdge) (s : EdgeList) (k : ℕ) (g : ListedEdge) → g.rank < e.rank → IsFirst p s k (Some g) → IsFirst p (e ∷ s) k (Some g)
+first-before p e s k g low h =
+    ((inr h.0.0, h.0.1),
+     λ f i t up. elim i as (λ _. g.rank ≤ f.rank)
+       [ inl same ↦ (let r : e.rank ≡ f.rank = ap (λ (x : ListedEdge). x.rank) same in omega arith)
+       | inr later ↦ h.1 f later t up ])

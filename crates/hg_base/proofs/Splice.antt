@@ -9,7 +9,7 @@ use Rattle.hg_base.proofs.Sets.{same_test, joined_below-more}
 use Rattle.hg_base.proofs.Members.{IsIn-below}
 use Rattle.hg_base.proofs.Leaving.{xor, leaves, row-same, xor-link, link-same, or_neither, xor_cases, joins-link}
 use Rattle.hg_base.proofs.Next.{IsFirst, IsFirst-one, next-first, component-stays}
-use Rattle.hg_base.proofs.Firsts.{IsUpTo, IsBefore, first-quiet, first-agree, first-more, first-lower, first-higher}
+use Rattle.hg_base.proofs.Firsts.{IsUpTo, IsBefore, first-quiet, first-agree, first-more, first-before, first-lower}
 
 -- up to e's rank the edges of lower rank are as before
 pub below-low : (e : ListedEdge) (s : EdgeList) (k : ℕ) → k ≤ e.rank → below (e ∷ s) k ≡ below s k
@@ -76,3 +76,57 @@ next-elsewhere e s h x k low nu nv =
         [ inl j ↦ leaves-joined e s x f (omega arith) j
         | inr j ↦ leaves-apart e s x f (omega arith) j
             ∙ rw (stays f up to e.u ∙ nu, stays f up to e.v ∙ nv) refl ]
+
+-- Up to e's rank, what came next before e still does.
+pub next-before : (e : ListedEdge) (s : EdgeList) → AreApart (e ∷ s) → (x k : ℕ) (f : ListedEdge) → next s x k ≡ Some f → f.rank < e.rank →
+  next (e ∷ s) x k ≡ Some f
+next-before e s h x k f eq low =
+    IsFirst-one (leaves (e ∷ s) x) (e ∷ s) h k _ _ (next-first (e ∷ s) h x k)
+      (first-before (leaves (e ∷ s) x) e s k f low
+        (first-agree (leaves s x) (leaves (e ∷ s) x) s k (Some f) (λ g i up to. leaves-low e s x g (omega arith))
+          (subst (λ (o : Option ListedEdge). IsFirst (leaves s x) s k o) eq (next-first s h.1 x k))))
+
+-- no edge of s that leaves x's component comes from rank k on and before e
+abbrev pub ComesNoneBefore : ListedEdge → EdgeList → ℕ → ℕ → Type 0
+ComesNoneBefore e s x k = IsBefore (next s x k) e.rank
+
+-- no edge leaves x's component from rank k on and before e
+none-before : (e : ListedEdge) (s : EdgeList) → AreApart (e ∷ s) → (x k : ℕ) → ComesNoneBefore e s x k →
+  (f : ListedEdge) → IsIn f s → k ≤ f.rank → f.rank < e.rank → leaves (e ∷ s) x f ≡ false
+none-before e s h x k none' f i up low =
+    leaves-low e s x f (omega arith)
+    ∙ first-quiet (leaves s x) s k (next s x k) (next-first s h.1 x k) f i up (before_sooner (next s x k) f.rank e.rank low none')
+  where
+    before_sooner : (o : Option ListedEdge) (m n : ℕ) → m < n → IsBefore o n → IsBefore o m
+    before_sooner None m n lt b = tt
+    before_sooner (Some g) m n lt b = omega arith
+
+-- Where e is the first to leave x's component, it comes next.
+pub next-at : (e : ListedEdge) (s : EdgeList) → AreApart (e ∷ s) → (x k : ℕ) → k ≤ e.rank → ComesNoneBefore e s x k → leaves s x e ≡ true →
+  next (e ∷ s) x k ≡ Some e
+next-at e s h x k up none' t =
+    IsFirst-one (leaves (e ∷ s) x) (e ∷ s) h k _ _ (next-first (e ∷ s) h x k)
+      ((inl refl, (leaves-low e s x e (omega arith) ∙ t, up)),
+       λ f i p low. elim i as (λ _. e.rank ≤ f.rank)
+         [ inl same ↦ (let r : e.rank ≡ f.rank = ap (λ (y : ListedEdge). y.rank) same in omega arith)
+         | inr later ↦ elim (cases_order f.rank e.rank) as (λ _. e.rank ≤ f.rank)
+             [ inl level ↦ omega arith
+             | inr other ↦ elim other as (λ _. e.rank ≤ f.rank)
+                 [ inl before ↦ absurd (true≢false (sym p ∙ none-before e s h x k none' f later low before))
+                 | inr after ↦ omega arith ] ] ])
+
+-- Where e doesn't leave x's component and nothing did before it, what comes behind e comes next.
+pub next-past : (e : ListedEdge) (s : EdgeList) → AreApart (e ∷ s) → (x k : ℕ) → k ≤ e.rank → ComesNoneBefore e s x k → leaves s x e ≡ false →
+  next (e ∷ s) x k ≡ next (e ∷ s) x (suc e.rank)
+next-past e s h x k up none' t =
+    IsFirst-one (leaves (e ∷ s) x) (e ∷ s) h k _ _ (next-first (e ∷ s) h x k)
+      (first-lower (leaves (e ∷ s) x) (e ∷ s) k (suc e.rank) (next (e ∷ s) x (suc e.rank)) (omega arith) quiet (next-first (e ∷ s) h x (suc e.rank)))
+  where
+    quiet : (f : ListedEdge) → IsIn f (e ∷ s) → k ≤ f.rank → f.rank < suc e.rank → leaves (e ∷ s) x f ≡ false
+    quiet f (inl same) low top = subst (λ (g : ListedEdge). leaves (e ∷ s) x g ≡ false) same (leaves-low e s x e (omega arith) ∙ t)
+    quiet f (inr later) low top =
+      elim (cases_order f.rank e.rank) as (λ _. leaves (e ∷ s) x f ≡ false)
+        [ inl level ↦ absurd (h.0 f later (sym level))
+        | inr other ↦ elim other as (λ _. leaves (e ∷ s) x f ≡ false)
+            [ inl before ↦ none-before e s h x k none' f later low before
+            | inr after ↦ absurd (omega arith) ] ]

@@ -4,6 +4,7 @@ pub mod Walks
 pub mod Sets
 pub mod Fronts
 pub mod Leaving
+pub mod Counts
 pub mod Next
 pub mod Firsts
 pub mod Splice

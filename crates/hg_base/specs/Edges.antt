@@ -1,6 +1,6 @@
 -- Edge lists: who is joined, which edges join, and the chain of a vertex (Najman, Cousty and Perret 2013).
 -- The edges of a list have different ranks; each has two ends, and a weight and a number where a definition reads them.
-use Rattle.std.specs.Prelude.{◌≡◌, ◌==◌, ℕ, ◌+◌, ◌<◌, Bool, not, ◌&&◌, ◌||◌, ◌⊎◌, List, [], ◌∷◌, filter, nat_lt, nat_le, Option, Some, None, if◌then◌else◌}
+use Rattle.std.specs.Prelude.{◌≡◌, ◌==◌, ℕ, zero, suc, ◌+◌, ◌<◌, Bool, not, ◌&&◌, ◌||◌, ◌⊎◌, List, [], ◌∷◌, filter, nat_lt, nat_le, Option, Some, None, if◌then◌else◌}
 use Rattle.std.specs.List.{range_with_len}
 
 -- an edge of an edge list
@@ -99,3 +99,16 @@ abbrev pub merged : EdgeList → Option ListedEdge → Option ListedEdge → Opt
 merged s None q = q
 merged s (Some f) None = Some f
 merged s (Some f) (Some g) = if nat_lt f.rank g.rank then Some f else (if nat_lt g.rank f.rank then Some g else next s f.u (f.rank + 1))
+
+-- how many numbers below n pass the test
+abbrev pub count_below : (ℕ → Bool) → ℕ → ℕ
+count_below p zero = 0
+count_below p (suc n) = count_below p n + (if p n then 1 else 0)
+
+-- no lesser vertex is the same as x by the test
+abbrev pub is_least : (ℕ → ℕ → Bool) → ℕ → Bool
+is_least r x = count_below (r x) x == 0
+
+-- the number of components: of the vertices below n that are the least of their component
+abbrev pub components : ℕ → EdgeList → ℕ
+components n s = count_below (is_least (joined s)) n

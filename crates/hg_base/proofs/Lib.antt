@@ -7,5 +7,6 @@ pub mod Leaving
 pub mod Counts
 pub mod Next
 pub mod Firsts
+pub mod Components
 pub mod Splice
 pub mod Merged

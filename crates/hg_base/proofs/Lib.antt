@@ -8,5 +8,7 @@ pub mod Counts
 pub mod Next
 pub mod Firsts
 pub mod Components
+pub mod Nodes
+pub mod Paths
 pub mod Splice
 pub mod Merged

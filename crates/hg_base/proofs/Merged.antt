@@ -25,7 +25,7 @@ abbrev pub IsQuiet : ListedEdge → EdgeList → ℕ → ℕ → Type 0
 IsQuiet e s k j = (g : ListedEdge) → IsIn g s → k ≤ g.rank → g.rank < j → (leaves s e.u g ≡ false) × (leaves s e.v g ≡ false)
 
 -- the ends stay apart while nothing leaves their components
-still_apart : (e : ListedEdge) (s : EdgeList) (x k : ℕ) → Merging e s x k → (j : ℕ) → k ≤ j → IsQuiet e s k j → joined (below s j) e.u e.v ≡ false
+pub still_apart : (e : ListedEdge) (s : EdgeList) (x k : ℕ) → Merging e s x k → (j : ℕ) → k ≤ j → IsQuiet e s k j → joined (below s j) e.u e.v ≡ false
 still_apart e s x k m j up quiet =
     component-stays s m.apart.1 k j e.u e.v up (λ g i low top. (quiet g i low top).0) ∙ m.unjoined
 
@@ -37,7 +37,7 @@ still_at_end e s x k m j up =
       | inr second ↦ or_right _ _ (joined_below-more s k j x e.v up second) ]
 
 -- what leaves the component of x then: what leaves that of one end
-leaves-merged : (e : ListedEdge) (s : EdgeList) (x k : ℕ) → Merging e s x k → (f : ListedEdge) → k ≤ f.rank → IsQuiet e s k f.rank →
+pub leaves-merged : (e : ListedEdge) (s : EdgeList) (x k : ℕ) → Merging e s x k → (f : ListedEdge) → k ≤ f.rank → IsQuiet e s k f.rank →
   leaves (e ∷ s) x f ≡ xor (leaves s e.u f) (leaves s e.v f)
 leaves-merged e s x k m f up quiet =
     leaves-apart e s x f (let a : e.rank < k = m.above in omega arith) (still_apart e s x k m f.rank up quiet)
@@ -133,7 +133,7 @@ joined-behind e s x k m z b =
         (still_apart e s x k m z.rank b.of_u.0.1.1 (both-quiet e s k z b)) b.of_u.0.1.0 b.of_v.0.1.0
 
 -- behind an edge, who was joined to one of its ends is joined to its first
-joined-to_end : (s : EdgeList) (z : ListedEdge) (y : ℕ) → IsIn z s → leaves s y z ≡ true → joined (below s (suc z.rank)) y z.u ≡ true
+pub joined-to_end : (s : EdgeList) (z : ListedEdge) (y : ℕ) → IsIn z s → leaves s y z ≡ true → joined (below s (suc z.rank)) y z.u ≡ true
 joined-to_end s z y i t =
     let same = IsSame-joined (below s (suc z.rank)) in
     elim (xor_cases (joined (below s z.rank) y z.u) (joined (below s z.rank) y z.v) t)

@@ -10,5 +10,7 @@ pub mod Firsts
 pub mod Components
 pub mod Nodes
 pub mod Paths
+pub mod FrontTree
+pub mod FrontOnce
 pub mod Splice
 pub mod Merged

@@ -12,5 +12,6 @@ pub mod Nodes
 pub mod Paths
 pub mod FrontTree
 pub mod FrontOnce
+pub mod Meeting
 pub mod Splice
 pub mod Merged

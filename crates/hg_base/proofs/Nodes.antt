@@ -36,7 +36,7 @@ slice_get-mapped {X} f (y ∷ ys) zero x h = let same : y ≡ x = cc in ap (λ (
 slice_get-mapped {X} f (y ∷ ys) (suc i) x h = slice_get-mapped f ys i x h
 
 -- no edge of a rising list has a lower rank than the first
-none_before_first : (g : ListedEdge) (t : EdgeList) → IsRising (g ∷ t) → (e : ListedEdge) → g ≡ e → below (g ∷ t) e.rank ≡ []
+pub none_before_first : (g : ListedEdge) (t : EdgeList) → IsRising (g ∷ t) → (e : ListedEdge) → g ≡ e → below (g ∷ t) e.rank ≡ []
 none_before_first g t h e same = nothing-in (below (g ∷ t) e.rank) (λ f k.
     (let p = IsIn-below_kept f (g ∷ t) e.rank k in
      let low : f.rank < e.rank = p.1 in

@@ -3,6 +3,7 @@ pub mod GraphFields
 pub mod Edges
 pub mod Rank
 pub mod Tree
+pub mod Saliency
 pub mod Worked
 pub mod Text
 pub mod Fault

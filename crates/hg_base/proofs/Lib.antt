@@ -13,5 +13,6 @@ pub mod Paths
 pub mod FrontTree
 pub mod FrontOnce
 pub mod Meeting
+pub mod SideBySide
 pub mod Splice
 pub mod Merged

@@ -14,5 +14,6 @@ pub mod FrontTree
 pub mod FrontOnce
 pub mod Meeting
 pub mod SideBySide
+pub mod Renaming
 pub mod Splice
 pub mod Merged

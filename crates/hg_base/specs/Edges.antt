@@ -1,6 +1,6 @@
 -- Edge lists: who is joined, which edges join, and the chain of a vertex (Najman, Cousty and Perret 2013).
 -- The edges of a list have different ranks; each has two ends, and a weight and a number where a definition reads them.
-use Rattle.std.specs.Prelude.{◌≡◌, ◌==◌, ℕ, zero, suc, ◌+◌, ◌<◌, Bool, not, ◌&&◌, ◌||◌, ◌⊎◌, List, [], ◌∷◌, filter, nat_lt, nat_le, Option, Some, None, if◌then◌else◌}
+use Rattle.std.specs.Prelude.{◌≡◌, ◌==◌, ℕ, zero, suc, ◌+◌, ◌<◌, Bool, not, ◌&&◌, ◌||◌, ◌⊎◌, List, [], ◌∷◌, map, filter, nat_lt, nat_le, Option, Some, None, if◌then◌else◌}
 use Rattle.std.specs.List.{range_with_len}
 
 -- an edge of an edge list
@@ -112,3 +112,15 @@ is_least r x = count_below (r x) x == 0
 -- the number of components: of the vertices below n that are the least of their component
 abbrev pub components : ℕ → EdgeList → ℕ
 components n s = count_below (is_least (joined s)) n
+
+-- the edge with its ends renamed
+abbrev pub renamed_edge : (ℕ → ℕ) → ListedEdge → ListedEdge
+renamed_edge f e = record { rank = e.rank; u = f e.u; v = f e.v; weight = e.weight; number = e.number }
+
+-- the edges with the vertices renamed
+abbrev pub renamed : (ℕ → ℕ) → EdgeList → EdgeList
+renamed f s = map (renamed_edge f) s
+
+-- no two vertices below n get one name
+abbrev pub IsOneToOne : ℕ → (ℕ → ℕ) → Type 0
+IsOneToOne n f = (x y : ℕ) → x < n → y < n → f x ≡ f y → x ≡ y

@@ -3,6 +3,7 @@ use Rattle.std.proofs.Common.{◌≡◌, ℕ, ◌<◌, Bool, true, false, cond, 
 use Rattle.std.specs.Prelude.{filter, nat_lt}
 use Rattle.std.proofs.lemmas.Bool.{cases_Bool, ltb-true, ltb-false, lt-ltb}
 use Rattle.hg_base.specs.Edges.{ListedEdge, EdgeList, IsIn, AreApart, placed_by_rank, in_order, below}
+pub use Rattle.hg_base.specs.Edges.{IsSameSet}
 
 -- what is in the list and passes the test is in what the filter keeps
 pub IsIn-filter : {X : Type 0} (p : X → Bool) (x : X) (xs : List X) → p x ≡ true → IsIn x xs → IsIn x (filter p xs)
@@ -26,11 +27,6 @@ IsIn-kept {X} p x (y ∷ ys) i =
       | inr dropped ↦ (let j : IsIn x (filter p ys) = subst (λ (b : Bool). IsIn x (cond b (y ∷ filter p ys) (filter p ys))) dropped i in
           let k = IsIn-kept p x ys j in (k.0, inr k.1))
       ]
-
--- both lists hold the same edges
-pub record IsSameSet (s t : EdgeList) : Type 0 where
-  pub on : (e : ListedEdge) → IsIn e s → IsIn e t
-  pub back : (e : ListedEdge) → IsIn e t → IsIn e s
 
 pub IsSameSet-back : (s t : EdgeList) → IsSameSet s t → IsSameSet t s
 IsSameSet-back s t h = record { on = h.back; back = h.on }

@@ -32,6 +32,11 @@ IsWalk edges x (z ∷ zs) y = ((e : ListedEdge) × (IsIn e edges × AreEnds e x 
 abbrev pub Joined : EdgeList → ℕ → ℕ → Type 0
 Joined edges x y = (zs : List ℕ) × IsWalk edges x zs y
 
+-- both lists hold the same edges
+pub record IsSameSet (s t : EdgeList) : Type 0 where
+  pub on : (e : ListedEdge) → IsIn e s → IsIn e t
+  pub back : (e : ListedEdge) → IsIn e t → IsIn e s
+
 -- no two edges of the list have one rank
 abbrev pub AreApart : EdgeList → Type 0
 AreApart [] = Unit {0}
@@ -124,3 +129,7 @@ renamed f s = map (renamed_edge f) s
 -- no two vertices below n get one name
 abbrev pub IsOneToOne : ℕ → (ℕ → ℕ) → Type 0
 IsOneToOne n f = (x y : ℕ) → x < n → y < n → f x ≡ f y → x ≡ y
+
+-- the chains of x and y share an edge of rank below k
+abbrev pub ShareBelow : EdgeList → ℕ → ℕ → ℕ → Type 0
+ShareBelow s k x y = (e : ListedEdge) × (IsIn e (chain s x) × (IsIn e (chain s y) × (e.rank < k)))

@@ -116,7 +116,7 @@ not_both r same a b y apart h =
     same_test (r a y) false (λ k. sym apart ∙ same.on a y b k (same.back b y h)) (λ k. absurd (true≢false (sym k)))
 
 -- an edge from one component to the other leaves both
-crossing_leaves : (r : ℕ → ℕ → Bool) → IsSame r → (a b u v : ℕ) → r a b ≡ false → r a u ≡ true → r b v ≡ true →
+pub crossing_leaves : (r : ℕ → ℕ → Bool) → IsSame r → (a b u v : ℕ) → r a b ≡ false → r a u ≡ true → r b v ≡ true →
   (xor (r a u) (r a v) && xor (r b u) (r b v)) ≡ true
 crossing_leaves r same a b u v apart hu hv =
     let nav : r a v ≡ false = not_both r same a b v apart hv in
@@ -124,7 +124,7 @@ crossing_leaves r same a b u v apart hu hv =
     rw (hu, hv, nav, nbu) refl
 
 -- the same from the other end
-crossing_back : (r : ℕ → ℕ → Bool) → IsSame r → (a b u v : ℕ) → r a b ≡ false → r a v ≡ true → r b u ≡ true →
+pub crossing_back : (r : ℕ → ℕ → Bool) → IsSame r → (a b u v : ℕ) → r a b ≡ false → r a v ≡ true → r b u ≡ true →
   (xor (r a u) (r a v) && xor (r b u) (r b v)) ≡ true
 crossing_back r same a b u v apart hv hu =
     let nau : r a u ≡ false = not_both r same a b u apart hu in

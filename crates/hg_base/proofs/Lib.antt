@@ -17,3 +17,4 @@ pub mod SideBySide
 pub mod Renaming
 pub mod Splice
 pub mod Merged
+pub mod Drops

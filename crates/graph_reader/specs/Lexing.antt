@@ -20,7 +20,7 @@ IsBegun Other = Unit {0}
 unfoldable pub meaning_with : Text → List ℕ → Token
 meaning_with (Word k) more = meaning (take k (codes "graph2") ++ more)
 meaning_with (Number digits value) more =
-    if nat_le (digits + length more) 10 && list_all is_ascii_digit more
+    if list_all is_ascii_digit more && nat_le (digits + length more) 10
     then tokens.Number (fold (λ n b. n * 10 + (b - 48)) value more) else tokens.Other
 meaning_with Other more = tokens.Other
 

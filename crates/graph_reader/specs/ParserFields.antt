@@ -9,9 +9,6 @@ use Rattle.graph_reader.specs.Parsing.{Parsing}
 abbrev pub parsing_of : Inside → Parsing
 parsing_of p = record { stage = p.stage; with_areas = p.with_areas; n = p.n; m = p.m; areas = p.areas.items; edges = p.edges.items }
 
-abbrev pub IsVertexCount : ℕ → Type 0
-IsVertexCount n = (1 ≤ n) × (n ≤ 1048576)
-
 -- the areas and edges that have been read are lawful, and there is room for all edges
 pub record IsSized (p : Inside) : Type 0 where
   pub some_vertex : 1 ≤ p.n
@@ -43,9 +40,9 @@ pub record ReadsEdge (p : Inside) : Type 0 where
 
 -- what the fields keep to
 abbrev pub KeepsAt : Stage → Inside → Type 0
-KeepsAt stages.FirstWord p = Unit {0}
-KeepsAt stages.Vertices p = Unit {0}
-KeepsAt stages.Edges p = IsVertexCount p.n
+KeepsAt stages.FirstWord p = p.areas.items ≡ []
+KeepsAt stages.Vertices p = p.areas.items ≡ []
+KeepsAt stages.Edges p = (p.areas.items ≡ []) × (1 ≤ p.n) × (p.n ≤ 1048576)
 KeepsAt stages.Area p = ReadsAreas p
 KeepsAt stages.FirstEnd p = ReadsEdges p
 KeepsAt (stages.SecondEnd u) p = ReadsEdge p × (u < p.n)

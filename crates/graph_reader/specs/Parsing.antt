@@ -92,9 +92,7 @@ pub record Takes (old new : Parsing) (at : ℕ) (token : Token) : Type 0 where
   pub memory : is_counting old.stage ≡ false → is_out_of_memory new.stage ≡ is_out_of_memory old.stage
 
 -- memory was taken for m edges, and for the areas where they are given; or there was none
-abbrev pub sized_stage : Bool → Stage
-sized_stage true = stages.Area
-sized_stage false = stages.FirstEnd
-
-abbrev pub Sizes : Parsing → Parsing → ℕ → Type 0
-Sizes old new m = (new.stage ≡ stages.OutOfMemory) ⊎ (new ≡ record { stage = sized_stage old.with_areas; with_areas = old.with_areas; n = old.n; m = m; areas = if old.with_areas then [] else old.areas; edges = [] })
+abbrev pub TakesRoom : Parsing → Parsing → ℕ → Type 0
+TakesRoom old new m =
+    (new.stage ≡ stages.OutOfMemory)
+    ⊎ (new ≡ record { stage = if old.with_areas then stages.Area else stages.FirstEnd; with_areas = old.with_areas; n = old.n; m = m; areas = []; edges = [] })

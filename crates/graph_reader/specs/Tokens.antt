@@ -24,7 +24,7 @@ word bytes = before_first is_space bytes
 
 -- one to ten digits
 abbrev pub is_number : List ℕ → Bool
-is_number text = nat_le 1 (length text) && nat_le (length text) 10 && list_all is_ascii_digit text
+is_number text = list_all is_ascii_digit text && nat_le 1 (length text) && nat_le (length text) 10
 
 abbrev pub decimal : List ℕ → ℕ
 decimal digits = fold (λ n b. n * 10 + (b - 48)) 0 digits

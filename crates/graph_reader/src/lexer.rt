@@ -1,6 +1,6 @@
 ghost use Rattle.std.specs.Prelude.{◌≡◌, ◌+◌, ◌∷◌, [], List, ℕ, MatchOption};
 ghost use Rattle.graph_reader.specs.Lexing.{IsBegun, meaning_with, IsLexing, lexed};
-ghost use Rattle.graph_reader.specs.Tokens.{meaning, is_space};
+ghost use Rattle.graph_reader.specs.Tokens.{meaning, is_space, is_line_end};
 
 use crate::token::{Found, Token};
 
@@ -48,13 +48,21 @@ impl Text {
         ensures meaning { (more : List ℕ) → meaning_with result more ≡ meaning_with self (b ∷ more) }
     {
         match self {
-            Text::Word(length) if length < 6 && b == GRAPH2[length as usize] => {
-                Text::Word(length + 1)
+            Text::Word(length) => {
+                if length < 6 && b == GRAPH2[length as usize] {
+                    Text::Word(length + 1)
+                } else {
+                    Text::Other
+                }
             }
-            Text::Number(digits, value) if digits < 10 && b.is_ascii_digit() => {
-                Text::Number(digits + 1, value * 10 + u64::from(b - b'0'))
+            Text::Number(digits, value) => {
+                if digits < 10 && b.is_ascii_digit() {
+                    Text::Number(digits + 1, value * 10 + u64::from(b - b'0'))
+                } else {
+                    Text::Other
+                }
             }
-            _ => Text::Other,
+            Text::Other => Text::Other,
         }
     }
 
@@ -64,10 +72,17 @@ impl Text {
         ensures { result ≡ meaning_with self [] }
     {
         match self {
-            Text::Word(5) => Token::Graph,
-            Text::Word(6) => Token::GraphWithAreas,
+            Text::Word(length) => {
+                if length == 5 {
+                    Token::Graph
+                } else if length == 6 {
+                    Token::GraphWithAreas
+                } else {
+                    Token::Other
+                }
+            }
             Text::Number(_, value) => Token::Number(value),
-            _ => Token::Other,
+            Text::Other => Token::Other,
         }
     }
 }
@@ -76,6 +91,12 @@ fn is_space(b: u8) -> bool
     ensures { result ≡ is_space b }
 {
     matches!(b, b' ' | b'\t' | b'\n' | b'\r')
+}
+
+fn is_line_end(b: u8) -> bool
+    ensures { result ≡ is_line_end b }
+{
+    matches!(b, b'\n' | b'\r')
 }
 
 impl Lexer {
@@ -88,11 +109,22 @@ impl Lexer {
             (λ found. lexed self place (b ∷ rest) ≡ record { from = found.at; to = place; token = found.token } ∷ lexed result.0 (place + 1) rest) }
     {
         match self {
-            Lexer::Comment if b == b'\n' || b == b'\r' => (Lexer::Between, None),
-            Lexer::Comment => (Lexer::Comment, None),
-            Lexer::Between if b == b'#' => (Lexer::Comment, None),
-            Lexer::Between if is_space(b) => (Lexer::Between, None),
-            Lexer::Between => (Lexer::Inside(place, Text::begun(b)), None),
+            Lexer::Comment => {
+                if is_line_end(b) {
+                    (Lexer::Between, None)
+                } else {
+                    (Lexer::Comment, None)
+                }
+            }
+            Lexer::Between => {
+                if b == b'#' {
+                    (Lexer::Comment, None)
+                } else if is_space(b) {
+                    (Lexer::Between, None)
+                } else {
+                    (Lexer::Inside(place, Text::begun(b)), None)
+                }
+            }
             Lexer::Inside(at, text) => Lexer::after_inside(at, text, place, b),
         }
     }

@@ -1,5 +1,5 @@
 ghost use Rattle.std.specs.Prelude.{◌≡◌, ◌≢◌, ◌≤◌, ◌↔◌, ◌⊎◌, ℕ, List, [], ◌∷◌, true, false, length, IsTrue, Err};
-ghost use Rattle.graph_reader.specs.Parsing.{Takes, Sizes, reading, is_out_of_memory, settling, graph_so_far};
+ghost use Rattle.graph_reader.specs.Parsing.{Takes, TakesRoom, reading, is_out_of_memory, settling, graph_so_far};
 ghost use Rattle.graph_reader.specs.Progress.{Answers};
 
 use crate::rules;
@@ -50,7 +50,9 @@ impl Model for Parser {
     ghost invariant = { Keeps };
 }
 
-fn truncated(end: u64) -> ReadError {
+fn truncated(end: u64) -> ReadError
+    ensures { result ≡ ReadError.Fault (record { kind = FaultKind.Truncated; at = end; value = 0 }) }
+{
     ReadError::Fault(InputFault {
         kind: FaultKind::Truncated,
         at: end,
@@ -75,6 +77,7 @@ impl Parser {
     }
 
     /// Reads the next token. After a fault, or where memory ran out, nothing changes any more.
+    #[tactic(auto, unfolding(crate::specs::Parsing::reading_at, crate::specs::Parsing::settling))]
     pub fn take(&mut self, at: u64, token: Token)
         ensures { Takes self.old self.new at token }
     {
@@ -90,6 +93,7 @@ impl Parser {
         }
     }
 
+    #[tactic(auto, unfolding(crate::specs::Parsing::reading_at, crate::specs::Parsing::settling, crate::specs::EdgeList::graph))]
     fn take_first_word(&mut self, at: u64, token: Token)
         requires { self.old.stage ≡ Stage.FirstWord }
         ensures { Takes self.old self.new at token }
@@ -103,6 +107,7 @@ impl Parser {
         }
     }
 
+    #[tactic(auto, unfolding(crate::specs::Parsing::reading_at, crate::specs::Parsing::settling))]
     fn take_vertices(&mut self, at: u64, token: Token)
         requires { self.old.stage ≡ Stage.Vertices }
         ensures { Takes self.old self.new at token }
@@ -116,6 +121,7 @@ impl Parser {
         }
     }
 
+    #[tactic(auto, unfolding(crate::specs::Parsing::reading_at, crate::specs::Parsing::settling))]
     fn take_edges(&mut self, at: u64, token: Token)
         requires { self.old.stage ≡ Stage.Edges }
         ensures { Takes self.old self.new at token }
@@ -130,7 +136,7 @@ impl Parser {
     fn make_room(&mut self, m: u32)
         requires stage { self.old.stage ≡ Stage.Edges }
         requires edges { m ≤ 4194304 }
-        ensures { Sizes self.old self.new m }
+        ensures { TakesRoom self.old self.new m }
     {
         match Vec::with_capacity(self.alloc, m as usize) {
             Ok(edges) => self.edges = edges,
@@ -153,6 +159,7 @@ impl Parser {
         }
     }
 
+    #[tactic(auto, unfolding(crate::specs::Parsing::reading_at, crate::specs::Parsing::settling, crate::specs::EdgeList::several))]
     fn take_area(&mut self, at: u64, token: Token)
         requires { self.old.stage ≡ Stage.Area }
         ensures { Takes self.old self.new at token }
@@ -168,6 +175,7 @@ impl Parser {
         }
     }
 
+    #[tactic(auto, unfolding(crate::specs::Parsing::reading_at, crate::specs::Parsing::settling, crate::specs::EdgeList::several, crate::specs::EdgeList::edge))]
     fn take_first_end(&mut self, at: u64, token: Token)
         requires { self.old.stage ≡ Stage.FirstEnd }
         ensures { Takes self.old self.new at token }
@@ -186,6 +194,7 @@ impl Parser {
         }
     }
 
+    #[tactic(auto, unfolding(crate::specs::Parsing::reading_at, crate::specs::Parsing::settling))]
     fn take_second_end(&mut self, u: u32, at: u64, token: Token)
         requires { self.old.stage ≡ Stage.SecondEnd u }
         ensures { Takes self.old self.new at token }
@@ -196,6 +205,7 @@ impl Parser {
         }
     }
 
+    #[tactic(auto, unfolding(crate::specs::Parsing::reading_at, crate::specs::Parsing::settling, crate::specs::EdgeList::several))]
     fn take_weight(&mut self, u: u32, v: u32, at: u64, token: Token)
         requires { self.old.stage ≡ Stage.Weight u v }
         ensures { Takes self.old self.new at token }
@@ -210,6 +220,7 @@ impl Parser {
     }
 
     /// Whether the number of edges, or a fault, has been read.
+    #[tactic(auto, unfolding(crate::specs::Parsing::reading_at, crate::specs::Parsing::settling))]
     pub fn is_settled(&self) -> bool
         ensures { result ≡ settling self.now.stage [] }
     {
@@ -227,20 +238,31 @@ impl Parser {
     }
 
     /// The graph, where the input ends at this place and has no further token. Takes no memory.
+    #[tactic(auto, unfolding(crate::specs::Parsing::reading_at, crate::specs::Parsing::settling, crate::specs::EdgeList::graph, crate::specs::EdgeList::several))]
     pub fn finish(self, end: u64) -> Result<Graph, ReadError>
         ensures read { is_out_of_memory self.stage ≡ false → Answers result (reading self end []) }
         ensures memory { IsTrue (is_out_of_memory self.stage) ↔ (result ≡ Err ReadError.OutOfMemory) }
     {
         match self.stage {
-            Stage::FirstEnd if self.edges.len() == self.m as usize => Ok(self.into_graph()),
             Stage::FirstWord => Err(ReadError::Fault(InputFault {
                 kind: FaultKind::UnknownForm,
                 at: end,
                 value: 0,
             })),
+            Stage::FirstEnd => {
+                if self.edges.len() == self.m as usize {
+                    Ok(self.into_graph())
+                } else {
+                    Err(truncated(end))
+                }
+            }
+            Stage::Vertices
+            | Stage::Edges
+            | Stage::Area
+            | Stage::SecondEnd(_)
+            | Stage::Weight(_, _) => Err(truncated(end)),
             Stage::Faulty(fault) => Err(ReadError::Fault(fault)),
             Stage::OutOfMemory => Err(ReadError::OutOfMemory),
-            _ => Err(truncated(end)),
         }
     }
 
@@ -280,14 +302,20 @@ impl Parser {
     }
 
     // The last token is the number of edges: a graph without edges, or the input ends too early.
+    #[tactic(auto, unfolding(crate::specs::Parsing::reading_at, crate::specs::Parsing::settling, crate::specs::EdgeList::several))]
     fn finish_at_edges(self, at: u64, token: Token, end: u64) -> Result<Graph, ReadError>
         requires { self.stage ≡ Stage.Edges }
         ensures read { (to : ℕ) → Answers result (reading self end (record { from = at; to = to; token = token } ∷ [])) }
         ensures memory { result ≢ Err ReadError.OutOfMemory }
     {
         match rules::edges(at, token) {
-            Ok(0) if !self.with_areas => Ok(Graph::new(self.n, Vec::new(self.alloc))),
-            Ok(_) => Err(truncated(end)),
+            Ok(m) => {
+                if m == 0 && !self.with_areas {
+                    Ok(Graph::new(self.n, Vec::new(self.alloc)))
+                } else {
+                    Err(truncated(end))
+                }
+            }
             Err(fault) => Err(ReadError::Fault(fault)),
         }
     }

@@ -1,5 +1,5 @@
 -- One token of a chain of rules at a time.
-use Rattle.std.proofs.Common.{◌≡◌, ℕ, zero, suc, ◌+◌, ◌-◌, ◌<◌, ◌≤◌, List, [], ◌∷◌, ◌++◌, refl, sym, ap, ◌∙◌, arith, append_assoc}
+use Rattle.std.proofs.Common.{◌≡◌, ℕ, zero, suc, ◌<◌, List, [], ◌∷◌, ◌++◌, refl, arith, append_assoc}
 use Rattle.std.specs.Prelude.{Result, Ok, Err}
 use Rattle.hg_base.specs.Graph.{WeightedGraph}
 use Rattle.hg_base.specs.declared.graph.Edge.{Edge}
@@ -51,14 +51,14 @@ edge-first g e (Err f) = refl
 weight-first : (g : WeightedGraph) (j end u v : ℕ) (r : Result (ℕ × List PlacedToken) InputFault)
     → (r >>= λ w. more_edges (extended g (record { u = u; v = v; w = w.0 })) j end w.1)
     ≡ (((r >>= edge_of u v) >>= λ x. (several j (edge g.n end) x.1 >>= joined x.0))
-      >>= λ e. whole (record { n = g.n; areas = g.areas; edges = g.edges ++ e.0 }) e.1)
+    >>= λ e. whole (record { n = g.n; areas = g.areas; edges = g.edges ++ e.0 }) e.1)
 weight-first g j end u v (Ok w) = edge-first g (record { u = u; v = v; w = w.0 }) (several j (edge g.n end) w.1)
 weight-first g j end u v (Err f) = refl
 
 second_end-first : (g : WeightedGraph) (j end u : ℕ) (r : Result (ℕ × List PlacedToken) InputFault)
     → (r >>= λ v. (need end weight v.1 >>= λ w. more_edges (extended g (record { u = u; v = v.0; w = w.0 })) j end w.1))
     ≡ (((r >>= λ v. (need end weight v.1 >>= edge_of u v.0)) >>= λ x. (several j (edge g.n end) x.1 >>= joined x.0))
-      >>= λ e. whole (record { n = g.n; areas = g.areas; edges = g.edges ++ e.0 }) e.1)
+    >>= λ e. whole (record { n = g.n; areas = g.areas; edges = g.edges ++ e.0 }) e.1)
 second_end-first g j end u (Ok v) = weight-first g j end u v.0 (need end weight v.1)
 second_end-first g j end u (Err f) = refl
 

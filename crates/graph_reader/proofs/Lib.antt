@@ -2,3 +2,4 @@ pub mod Texts
 pub mod Steps
 pub mod Chains
 pub mod Takes
+pub mod Decoding

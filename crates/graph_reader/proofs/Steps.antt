@@ -1,11 +1,9 @@
 -- The tokens to come, byte after byte.
-use Rattle.std.proofs.Common.{◌≡◌, ◌≢◌, ℕ, zero, suc, ◌+◌, ◌<◌, ◌≤◌, Bool, true, false, cond, not, ◌&&◌, ◌||◌, List, [], ◌∷◌, ◌++◌, length, take, refl, sym, ap, ◌∙◌, arith, add-zero}
-use Rattle.std.specs.Prelude.{nat_eq}
+use Rattle.std.proofs.Common.{◌≡◌, ◌≢◌, ℕ, suc, ◌+◌, Bool, true, false, List, [], ◌∷◌, refl, arith, add-zero}
 use Rattle.std.proofs.lemmas.Bool.{ne_eqb}
-use Rattle.std.specs.List.{position_or_len}
 use Rattle.graph_reader.specs.declared.lexer.Text.{Text}
 use Rattle.graph_reader.specs.declared.lexer.Lexer.TheVariants.{Between, Comment, Inside}
-use Rattle.graph_reader.specs.Tokens.{PlacedToken, is_space, is_line_end, blanked, word, token_at, tokens_from, meaning}
+use Rattle.graph_reader.specs.Tokens.{is_space, is_line_end, blanked, word, token_at, tokens_from, meaning}
 use Rattle.graph_reader.specs.Lexing.{meaning_with, lexed}
 
 pub one-add : (n : ℕ) → 1 + n ≡ suc n
@@ -19,9 +17,6 @@ word-space b bs e = rw e refl
 
 pub word-other : (b : ℕ) (bs : List ℕ) → is_space b ≡ false → word (b ∷ bs) ≡ b ∷ word bs
 word-other b bs e = rw (e, one-add) refl
-
-
-
 
 pub tokens-space : (after : Bool) (place b : ℕ) (bs : List ℕ) → is_space b ≡ true → tokens_from after place (b ∷ bs) ≡ tokens_from true (place + 1) bs
 unfolding tokens_from

@@ -1,13 +1,12 @@
 -- What a token says, byte after byte.
-use Rattle.std.proofs.Common.{◌≡◌, ◌≢◌, ℕ, zero, suc, ◌+◌, ◌-◌, ◌*◌, ◌^◌, ◌<◌, ◌≤◌, Bool, true, false, cond, not, ◌&&◌, ◌||◌, List, [], ◌∷◌, ◌++◌, length, take, drop, get_or, refl, sym, ap, ◌∙◌, arith, append_assoc, zero-add, add-zero}
-use Rattle.std.specs.Prelude.{codes, bytes_eq, nat_eq, nat_le}
-use Rattle.std.specs.List.{list_all, fold}
+use Rattle.std.proofs.Common.{◌≡◌, ◌≢◌, ℕ, zero, suc, ◌+◌, ◌-◌, ◌*◌, ◌<◌, ◌≤◌, Bool, true, false, ◌&&◌, List, [], ◌∷◌, ◌++◌, length, take, get_or, refl, arith, append_assoc, zero-add, add-zero}
+use Rattle.std.specs.Prelude.{codes, nat_le}
 use Rattle.std.specs.Char.{is_ascii_digit}
 use Rattle.std.proofs.lemmas.List.{take_more}
 use Rattle.std.proofs.lemmas.Bool.{ne_eqb}
 use Rattle.graph_reader.specs.declared.token.Token.TheVariants as tokens
 use Rattle.graph_reader.specs.declared.lexer.Text.TheVariants.{Word, Number, Other}
-use Rattle.graph_reader.specs.Tokens.{is_number, decimal, meaning}
+use Rattle.graph_reader.specs.Tokens.{meaning}
 use Rattle.graph_reader.specs.Lexing.{meaning_with}
 
 and-false : (a : Bool) → (a && false) ≡ false

@@ -1,6 +1,6 @@
-ghost use Rattle.std.specs.Prelude.{◌≡◌, ◌+◌, ◌<◌, ◌≤◌, ◌↔◌, ℕ, List, [], ◌∷◌, ◌++◌, length, false, IsTrue, IsFalse, IfOk, Err, is_err};
+ghost use Rattle.std.specs.Prelude.{◌≡◌, ◌+◌, ◌<◌, ◌≤◌, ◌↔◌, ℕ, List, [], ◌∷◌, ◌++◌, length, IsTrue, IsFalse, IfOk, Err, is_err};
 ghost use Rattle.graph_reader.specs.EdgeList.{edge_list, settles};
-ghost use Rattle.graph_reader.specs.Progress.{HasRead, Answers, is_out_of_memory, is_sized, reading_on, settles_with};
+ghost use Rattle.graph_reader.specs.Progress.{HasRead, Answers, is_out_of_memory, is_sized};
 
 use crate::lexer::Lexer;
 use crate::parser::Parser;
@@ -100,8 +100,7 @@ impl Decoder {
     // Reads one byte.
     fn push(&mut self, b: u8)
         requires { self.old.taken < 134217728 }
-        ensures read { is_out_of_memory self.new ≡ false → (rest : List ℕ) → reading_on self.new rest ≡ reading_on self.old (b ∷ rest) }
-        ensures settling { (rest : List ℕ) → settles_with self.new rest ≡ settles_with self.old (b ∷ rest) }
+        ensures read { (bytes : List ℕ) → HasRead self.old bytes → HasRead self.new (bytes ++ b ∷ []) }
         ensures taken { self.new.taken ≡ self.old.taken + 1 }
         ensures stays { IsTrue (is_out_of_memory self.old) → IsTrue (is_out_of_memory self.new) }
         ensures sized { IsTrue (is_sized self.old) → IsTrue (is_sized self.new) × (is_out_of_memory self.new ≡ is_out_of_memory self.old) }

@@ -1,4 +1,4 @@
-use Rattle.std.proofs.Common.{◌≡◌, sym}
+use Rattle.std.proofs.Common.{sym}
 use Rattle.graph_reader.proofs.Steps.{comment-end, comment-more, between-hash, between-space, between-begin}
 use Rattle.graph_reader.proofs.lexer.Lexer.after.Goals as goal
 

@@ -1,4 +1,4 @@
-use Rattle.std.proofs.Common.{◌≡◌, sym}
+use Rattle.std.proofs.Common.{sym}
 use Rattle.graph_reader.proofs.Steps.{inside-hash, inside-space, inside-more}
 use Rattle.graph_reader.proofs.lexer.Lexer.after_inside.Goals as goal
 

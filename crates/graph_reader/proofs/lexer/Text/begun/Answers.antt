@@ -1,5 +1,5 @@
-use Rattle.std.proofs.Common.{◌≡◌, sym}
-use Rattle.graph_reader.proofs.Texts.{meaning-digit, meaning-g, meaning-other, meaning-word}
+use Rattle.std.proofs.Common.{sym}
+use Rattle.graph_reader.proofs.Texts.{meaning-digit, meaning-g, meaning-other}
 use Rattle.graph_reader.proofs.lexer.Text.begun.Goals as goal
 
 pub returns-then-is_ascii_digit-clause-meaning : goal.returns-then-is_ascii_digit-clause-meaning

@@ -1,4 +1,3 @@
-use Rattle.std.proofs.Common.{◌≡◌, sym}
 use Rattle.graph_reader.proofs.Texts.{token-graph, token-graph2, token-number, token-word, token-other}
 use Rattle.graph_reader.proofs.lexer.Text.token.Goals as goal
 

@@ -1,4 +1,4 @@
-use Rattle.std.proofs.Common.{◌≡◌, ◌<◌, ◌-◌, length, refl, arith}
+use Rattle.std.proofs.Common.{◌<◌, ◌-◌, length, arith}
 use Rattle.graph_reader.proofs.Chains.{more_edges-missing}
 use Rattle.graph_reader.proofs.Takes.{unfinished}
 use Rattle.graph_reader.specs.Parsing.{reading_at}

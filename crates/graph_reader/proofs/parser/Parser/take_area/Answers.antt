@@ -1,4 +1,4 @@
-use Rattle.std.proofs.Common.{◌≡◌, sym}
+use Rattle.std.proofs.Common.{sym}
 use Rattle.graph_reader.proofs.Takes.{takes-area}
 use Rattle.graph_reader.proofs.parser.Parser.take_area.Goals as goal
 

@@ -1,4 +1,4 @@
-use Rattle.std.proofs.Common.{◌≡◌, ◌<◌, length, sym, arith}
+use Rattle.std.proofs.Common.{◌<◌, length, sym, arith}
 use Rattle.graph_reader.proofs.Takes.{takes-first_end}
 use Rattle.graph_reader.proofs.parser.Parser.take_first_end.Goals as goal
 

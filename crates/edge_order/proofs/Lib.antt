@@ -1,0 +1,4 @@
+pub mod Counts
+pub mod Pigeons
+pub mod Ranks
+pub mod Sorted

@@ -2,3 +2,4 @@ pub mod Counts
 pub mod Pigeons
 pub mod Ranks
 pub mod Sorted
+pub mod Rows

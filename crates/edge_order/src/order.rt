@@ -1,8 +1,8 @@
-ghost use Rattle.std.specs.Prelude.{◌≡◌, ℕ, ◌+◌, ◌<◌, ◌≤◌, ◌∷◌, [], ◌++◌, length, map, take, slice_get, Some, IfOk};
+ghost use Rattle.std.specs.Prelude.{◌≡◌, ℕ, ◌+◌, ◌<◌, ◌≤◌, ◌∷◌, [], ◌++◌, length, map, take, slice_get, Some, IfOk, All};
 ghost use Rattle.hg_base.specs.Graph.{JoinsTwo, weight};
 ghost use Rattle.hg_base.specs.Rank.{numbers, number_at, rank, ranked};
 ghost use Rattle.edge_order.specs.Order.{order_of, number_at_rank, with_number, without_rank};
-ghost use Rattle.edge_order.specs.Tables.{keys_of, sorted_keys_of, ranks_of, listed_row};
+ghost use Rattle.edge_order.specs.Tables.{keys_of, sorted_keys_of, ranks_of, listed_row, HasEnds};
 
 use hg_base::{Edge, Graph, OutOfMemory, RankedEdge};
 use std::alloc::{AllocError, Global};
@@ -65,7 +65,9 @@ fn edges_by_rank(
     keys: &[(u32, u32)],
 ) -> Result<Vec<NumberedEdge>, AllocError>
     requires { keys.now ≡ sorted_keys_of graph.now }
-    ensures { IfOk result (λ v. map listed_row v.items ≡ ranked graph.now) }
+    ensures edges { IfOk result (λ v. map listed_row v.items ≡ ranked graph.now) }
+    ensures ends { IfOk result (λ v. All (HasEnds graph.now.n) v.items) }
+    ensures few { IfOk result (λ v. length v.items ≤ 4194304) }
 {
     let mut edges = Vec::with_capacity(alloc, keys.len())?;
     for rank in 0..graph.m() {
@@ -135,7 +137,8 @@ impl Order {
         ensures value { slice_get self.now.edges k ≡ Some (with_number result (number_at_rank self.now k)) }
         ensures rank { result.rank ≡ k }
         ensures ends { JoinsTwo self.now.n (without_rank result) }
-        ensures next { take (k + 1) self.now.edges ≡ take k self.now.edges ++ with_number result (number_at_rank self.now k) ∷ [] }
+        ensures next { let edge = with_number result (number_at_rank self.now k) in
+            take (k + 1) self.now.edges ≡ take k self.now.edges ++ edge ∷ [] }
     {
         self.edges[k as usize].edge
     }
@@ -159,3 +162,6 @@ impl Order {
         self.ranks[e as usize]
     }
 }
+
+#[cfg(test)]
+mod tests;

@@ -6,6 +6,6 @@ use Rattle.edge_order.proofs.order.sorted_keys.Goals as goal
 
 pub returns : goal.returns
 returns c =
-  sorted_keys-is c.args.graph.now _
+    sorted_keys-is c.args.graph.now _
     (subst (λ (xs : List (ℕ × ℕ)). IsPermutation xs c.sort_unstable.new.self.items) c.in_ok-keys.ensures c.sort_unstable.ensures.permutation)
     c.sort_unstable.ensures.sorted

@@ -3,5 +3,6 @@ pub mod GraphFields
 pub mod Edges
 pub mod Rank
 pub mod Tree
+pub mod Worked
 pub mod Text
 pub mod Fault

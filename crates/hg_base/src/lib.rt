@@ -3,6 +3,9 @@
 
 mod fault;
 mod graph;
+pub mod laws;
+#[cfg(test)]
+mod worked;
 
 pub use fault::{Failed, FaultKind, InputFault, OutOfMemory, ReadError};
 pub use graph::{Edge, Graph, PlacedEdge, RankedEdge, Room};

@@ -19,3 +19,7 @@ pub mod Renaming
 pub mod Splice
 pub mod Merged
 pub mod Drops
+pub mod CountBy
+pub mod Pigeons
+pub mod Ranks
+pub mod Ranked

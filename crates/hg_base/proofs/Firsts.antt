@@ -4,17 +4,13 @@ use Rattle.std.specs.Prelude.{Option, Some, None}
 use Rattle.std.proofs.lemmas.Bool.{cases_Bool, cases_order, true≢false}
 use Rattle.std.proofs.Common.{ap}
 use Rattle.hg_base.specs.Edges.{ListedEdge, EdgeList, IsIn}
+pub use Rattle.hg_base.specs.Splice.{ComesAfter as IsBefore}
 use Rattle.hg_base.proofs.Next.{IsFirst}
 
 -- rank n is not above the edge, where there is one
 abbrev pub IsUpTo : Option ListedEdge → ℕ → Type 0
 IsUpTo None n = Unit {0}
 IsUpTo (Some f) n = n ≤ f.rank
-
--- rank n is below the edge's, where there is one
-abbrev pub IsBefore : Option ListedEdge → ℕ → Type 0
-IsBefore None n = Unit {0}
-IsBefore (Some f) n = n < f.rank
 
 -- no edge before the first passes the test
 pub first-quiet : (p : ListedEdge → Bool) (s : EdgeList) (k : ℕ) (o : Option ListedEdge) → IsFirst p s k o →

@@ -14,7 +14,7 @@ same_test false true f g = g refl
 same_test false false f g = refl
 
 -- a walk stays a walk among more edges
-walk-among : (s t : EdgeList) → ((e : ListedEdge) → IsIn e s → IsIn e t) → (x : ℕ) (zs : List ℕ) (y : ℕ) → IsWalk s x zs y → IsWalk t x zs y
+pub walk-among : (s t : EdgeList) → ((e : ListedEdge) → IsIn e s → IsIn e t) → (x : ℕ) (zs : List ℕ) (y : ℕ) → IsWalk s x zs y → IsWalk t x zs y
 walk-among s t more x [] y w = w
 walk-among s t more x (z ∷ zs) y w = ((w.0.0, (more w.0.0 w.0.1.0, w.0.1.1)), walk-among s t more z zs y w.1)
 

@@ -8,3 +8,6 @@ mod rules;
 mod token;
 
 pub use decoder::{Decoder, read_graph};
+
+#[cfg(test)]
+mod tests;

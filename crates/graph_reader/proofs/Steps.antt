@@ -1,5 +1,5 @@
 -- The tokens to come, byte after byte.
-use Rattle.std.proofs.Common.{◌≡◌, ◌≢◌, ℕ, suc, ◌+◌, Bool, true, false, List, [], ◌∷◌, refl, arith, add-zero}
+use Rattle.std.proofs.Common.{length, ◌≡◌, ◌≢◌, ℕ, suc, ◌+◌, Bool, true, false, List, [], ◌∷◌, refl, arith, add-zero}
 use Rattle.std.proofs.lemmas.Bool.{ne_eqb}
 use Rattle.graph_reader.specs.declared.lexer.Text.{Text}
 use Rattle.graph_reader.specs.declared.lexer.Lexer.TheVariants.{Between, Comment, Inside}

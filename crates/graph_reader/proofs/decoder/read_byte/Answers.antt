@@ -1,4 +1,3 @@
-use Rattle.std.proofs.Common.{◌≡◌}
 use Rattle.graph_reader.proofs.Decoding.{read-quiet, read-token, keeps-taking}
 use Rattle.graph_reader.proofs.decoder.read_byte.Goals as goal
 

@@ -9,6 +9,6 @@ invariant-loop-b l = record {
   lexing : IsLexing l.now;
   at : l.at ≡ l.place + l.b-index;
   read : (bytes : List ℕ) → HasRead (record { taken = l.place; lexer = l.fn.lexer; parsing = l.initial.parser }) bytes
-    → HasRead (record { taken = l.at; lexer = l.now; parsing = l.parser }) (bytes ++ take l.b-index l.piece);
+      → HasRead (record { taken = l.at; lexer = l.now; parsing = l.parser }) (bytes ++ take l.b-index l.piece);
   keeps : KeepsMemory l.initial.parser l.parser;
 }

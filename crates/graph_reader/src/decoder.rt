@@ -19,8 +19,6 @@ pub struct Decoder {
 }
 
 impl Model for Decoder {
-    ghost use Rattle.graph_reader.specs.Lexing.{IsLexing};
-    ghost use Rattle.graph_reader.specs.Parsing.{KeepsMemory};
     ghost use Rattle.graph_reader.specs.Progress.{Progress};
 
     ghost Value = { Progress };

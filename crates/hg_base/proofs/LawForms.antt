@@ -1,20 +1,19 @@
 -- The laws in the words of the definitions: walks in place of tests.
-use Rattle.std.proofs.Common.{◌≡◌, ℕ, suc, ◌<◌, ◌≤◌, Bool, true, false, ◌⊎◌, inl, inr, refl, sym, ◌∙◌, subst, ap, arith, List, [], ◌∷◌, length}
-use Rattle.std.specs.Prelude.{◌↔◌, ◌||◌, Option}
-use Rattle.std.proofs.lemmas.Bool.{cases_Bool, or_left, or_right, true≢false}
+use Rattle.std.proofs.Common.{◌≡◌, ℕ, ◌<◌, true, false, ◌⊎◌, inl, inr, refl, sym, ◌∙◌, ◌∷◌, length}
+use Rattle.std.specs.Prelude.{◌↔◌, ◌||◌}
+use Rattle.std.proofs.lemmas.Bool.{or_left, or_right, true≢false}
 use Rattle.hg_base.specs.Graph.{WeightedGraph, IsGraph, first_end, second_end}
-use Rattle.hg_base.specs.Edges.{ListedEdge, EdgeList, IsIn, IsSameSet, AreApart, Joined, joined, below, next, merged, ShareBelow}
+use Rattle.hg_base.specs.Edges.{ListedEdge, EdgeList, IsIn, AreApart, Joined, joined, below, next, merged, ShareBelow}
 use Rattle.hg_base.specs.Rank.{ranked}
 use Rattle.hg_base.specs.Tree.{altitude, graph_tree}
 use Rattle.hg_base.specs.Saliency.{IsLowestAbove, IsSaliency}
-use Rattle.hg_base.specs.Splice.{LeadsOut, ComesAfter, IsAtEnd}
-use Rattle.hg_base.proofs.Link.{IsSame}
+use Rattle.hg_base.specs.Splice.{LeadsOut, IsAtEnd}
 use Rattle.hg_base.proofs.Walks.{IsSame-joined, Joined-joined}
 use Rattle.hg_base.proofs.Sets.{same_test, walk-among, IsIn-chain, IsIn-chain_kept}
 use Rattle.hg_base.proofs.Fronts.{MeetBelow, joined-meet, meet-joined}
-use Rattle.hg_base.proofs.Leaving.{xor, leaves, xor_cases}
-use Rattle.hg_base.proofs.Splice.{next-at, next-past, next-joined, next-elsewhere}
-use Rattle.hg_base.proofs.Merged.{Merging, next-merged}
+use Rattle.hg_base.proofs.Leaving.{leaves, xor_cases}
+use Rattle.hg_base.proofs.Splice.{next-elsewhere}
+use Rattle.hg_base.proofs.Merged.{next-merged}
 use Rattle.hg_base.proofs.Meeting.{lowest-weight}
 use Rattle.hg_base.proofs.Drops.{untrue, holds}
 use Rattle.hg_base.proofs.Ranked.{AreApart-ranked, AreByWeight-ranked, ends-within}
@@ -39,9 +38,10 @@ leaves-from s x e (inr p) = rw (holds (below s e.rank) x e.v p.0, untrue (below 
 
 pub LeadsOut-from : (s : EdgeList) (x : ℕ) (e : ListedEdge) → leaves s x e ≡ true → LeadsOut s x e
 LeadsOut-from s x e h =
-    elim (xor_cases (joined (below s e.rank) x e.u) (joined (below s e.rank) x e.v) h)
-      [ inl p ↦ inl (Joined-joined (below s e.rank) x e.u p.0, not-Joined (below s e.rank) x e.v p.1)
-      | inr p ↦ inr (Joined-joined (below s e.rank) x e.v p.1, not-Joined (below s e.rank) x e.u p.0) ]
+    elim (xor_cases (joined (below s e.rank) x e.u) (joined (below s e.rank) x e.v) h) [
+      | inl p ↦ inl (Joined-joined (below s e.rank) x e.u p.0, not-Joined (below s e.rank) x e.v p.1)
+      | inr p ↦ inr (Joined-joined (below s e.rank) x e.v p.1, not-Joined (below s e.rank) x e.u p.0)
+    ]
 
 -- an edge that doesn't lead out doesn't leave
 pub stays-from : (s : EdgeList) (x : ℕ) (e : ListedEdge) → (LeadsOut s x e → ⊥) → leaves s x e ≡ false
@@ -57,26 +57,27 @@ met-from s k x y (inl same) = inl same
 met-from s k x y (inr m) = inr (record { edge = m.0; first = IsIn-chain_kept s x m.0 m.1.0; second = IsIn-chain_kept s y m.0 m.1.1.0; low = m.1.1.1 })
 
 pub meets-where_joined : (s : EdgeList) (k x y : ℕ) → AreApart s → (Joined (below s k) x y ↔ ((x ≡ y) ⊎ ShareBelow s k x y))
-meets-where_joined s k x y h =
-    (λ j. shared-from s k x y (joined-meet s h k x y (holds (below s k) x y j)),
-     λ m. Joined-joined (below s k) x y (meet-joined s k x y (met-from s k x y m)))
+meets-where_joined s k x y h = (
+  λ j. shared-from s k x y (joined-meet s h k x y (holds (below s k) x y j)),
+  λ m. Joined-joined (below s k) x y (meet-joined s k x y (met-from s k x y m)),
+)
 
 pub splice-elsewhere : (e : ListedEdge) (s : EdgeList) (x k : ℕ) → AreApart (e ∷ s) → e.rank < k → (IsAtEnd e s k x → ⊥) → next (e ∷ s) x k ≡ next s x k
 splice-elsewhere e s x k h lt out =
     next-elsewhere e s h x k lt
-      (untrue (below s k) x e.u (λ j. out (inl j))) (untrue (below s k) x e.v (λ j. out (inr j)))
+    (untrue (below s k) x e.u (λ j. out (inl j))) (untrue (below s k) x e.v (λ j. out (inr j)))
 
 at_end-from : (e : ListedEdge) (s : EdgeList) (k x : ℕ) → IsAtEnd e s k x → (joined (below s k) x e.u || joined (below s k) x e.v) ≡ true
 at_end-from e s k x (inl j) = or_left _ _ (holds (below s k) x e.u j)
 at_end-from e s k x (inr j) = or_right _ _ (holds (below s k) x e.v j)
 
 pub splice-merging : (e : ListedEdge) (s : EdgeList) (x k : ℕ) → AreApart (e ∷ s) → e.rank < k → (Joined (below s k) e.u e.v → ⊥) → IsAtEnd e s k x →
-  next (e ∷ s) x k ≡ merged s (next s e.u k) (next s e.v k)
+    next (e ∷ s) x k ≡ merged s (next s e.u k) (next s e.v k)
 splice-merging e s x k h lt apart at_end =
     next-merged e s x k (record { apart = h; above = lt; unjoined = untrue (below s k) e.u e.v apart; at_end = at_end-from e s k x at_end })
 
 pub saliency-lowest : (g : WeightedGraph) (e i : ℕ) → IsGraph g → e < length g.edges → IsLowestAbove (graph_tree g) (first_end g e) (second_end g e) i →
-  IsSaliency g e (altitude (graph_tree g) i)
+    IsSaliency g e (altitude (graph_tree g) i)
 saliency-lowest g e i h lt low =
     let ends = ends-within g h e lt in
     lowest-weight g.n (ranked g) (AreApart-ranked g) (AreByWeight-ranked g) (first_end g e) (second_end g e) i ends.0 ends.1 low

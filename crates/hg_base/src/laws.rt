@@ -10,8 +10,7 @@ ghost use Rattle.hg_base.specs.Splice.{IsRedundant, LeadsOut, ComesAfter, IsAtEn
 /// The test `joined` says exactly where a walk through the edges of the list leads.
 pub fn joined_by_walks()
     ensures { (s : EdgeList) (x y : ℕ) → IsTrue (joined s x y) ↔ Joined s x y }
-{
-}
+{}
 
 /// Being joined is an equivalence, grows with the set of edges, and depends on that set alone.
 pub fn joined_is_an_equivalence()
@@ -20,28 +19,24 @@ pub fn joined_is_an_equivalence()
     ensures on { (s : EdgeList) (x y z : ℕ) → Joined s x y → Joined s y z → Joined s x z }
     ensures grows { (s t : EdgeList) (x y : ℕ) → ((e : ListedEdge) → IsIn e s → IsIn e t) → Joined s x y → Joined t x y }
     ensures by_set { (s t : EdgeList) (x y : ℕ) → IsSameSet s t → (Joined s x y ↔ Joined t x y) }
-{
-}
+{}
 
 /// The joining edges and the chains depend on the set of edges alone.
 pub fn chains_by_the_set_of_edges()
     ensures joining { (s t : EdgeList) → AreApart s → AreApart t → IsSameSet s t → joins s ≡ joins t }
     ensures chains { (s t : EdgeList) (x : ℕ) → AreApart s → AreApart t → IsSameSet s t → chain s x ≡ chain t x }
-{
-}
+{}
 
 /// Other names for the vertices, no two with one name, change the joining edges and the chains by the names alone.
 pub fn chains_under_other_names()
     ensures joining { (n : ℕ) (f : ℕ → ℕ) (s : EdgeList) → IsOneToOne n f → AreWithin n s → joins (renamed f s) ≡ renamed f (joins s) }
     ensures chains { (n : ℕ) (f : ℕ → ℕ) (s : EdgeList) (x : ℕ) → IsOneToOne n f → AreWithin n s → x < n → chain (renamed f s) (f x) ≡ renamed f (chain s x) }
-{
-}
+{}
 
 /// The edges of rank below `k` join two vertices exactly where they are one or their chains share an edge of rank below `k`.
 pub fn joined_where_chains_meet()
     ensures { (s : EdgeList) (k x y : ℕ) → AreApart s → (Joined (below s k) x y ↔ ((x ≡ y) ⊎ ShareBelow s k x y)) }
-{
-}
+{}
 
 /// What joins and what the chains are after one more edge `e` of any rank. Where its ends were joined by edges of
 /// lower rank it changes nothing. Else it joins, and of the others the one that first joined its ends, if there is
@@ -52,8 +47,7 @@ pub fn one_more_edge()
     ensures joins_itself { (e : ListedEdge) (s : EdgeList) → ¬ IsRedundant e s → IsIn e (joins (e ∷ s)) }
     ensures replaces { (e f : ListedEdge) (s : EdgeList) → AreApart (e ∷ s) → ¬ IsRedundant e s → IsIn f s →
         (IsIn f (joins (e ∷ s)) ↔ (IsIn f (joins s) × ¬ MeetFirst s e.u e.v f)) }
-{
-}
+{}
 
 /// The splice: which edge comes next on the chain of a vertex from rank `k` on, after one more edge `e`.
 pub fn splice()
@@ -74,14 +68,12 @@ pub fn splice()
     // Until then the chains of both ends are merged into one.
     ensures merging { (e : ListedEdge) (s : EdgeList) (x k : ℕ) → AreApart (e ∷ s) → e.rank < k → ¬ Joined (below s k) e.u e.v → IsAtEnd e s k x →
         next (e ∷ s) x k ≡ merged s (next s e.u k) (next s e.v k) }
-{
-}
+{}
 
 /// Joining edges and components add up to the number of vertices.
 pub fn joining_edges_and_components()
     ensures { (n : ℕ) (s : EdgeList) → AreApart s → AreWithin n s → length (joins s) + components n s ≡ n }
-{
-}
+{}
 
 /// The vertex sets of the nodes of the tree are exactly the components of the fronts, each once. A leaf has
 /// altitude 0, and another node the weight of the edge that made it.
@@ -90,20 +82,17 @@ pub fn tree_is_a_front_tree()
     ensures leaf_altitudes { (n x : ℕ) (s : EdgeList) → x < n → altitude (tree_of n s) x ≡ 0 }
     ensures inner_altitudes { (n : ℕ) (s : EdgeList) (e : ListedEdge) → AreApart s → IsIn e (joins s) →
         altitude (tree_of n s) (n + place s e) ≡ e.weight }
-{
-}
+{}
 
 /// The saliency of an edge is the altitude of the lowest common ancestor of its ends.
 pub fn saliency_is_an_altitude()
     ensures { (g : WeightedGraph) (e i : ℕ) → IsGraph g → e < length g.edges →
         IsLowestAbove (graph_tree g) (first_end g e) (second_end g e) i → IsSaliency g e (altitude (graph_tree g) i) }
-{
-}
+{}
 
 /// The ranked edges of a graph have different ranks, and their ends are vertices; each edge is there at its rank.
 pub fn ranked_edges()
     ensures apart { (g : WeightedGraph) → AreApart (ranked g) }
     ensures within { (g : WeightedGraph) → IsGraph g → AreWithin g.n (ranked g) }
     ensures each { (g : WeightedGraph) (e : ℕ) → e < length g.edges → IsIn (listed g (rank g e) e) (ranked g) }
-{
-}
+{}

@@ -5,11 +5,11 @@ mod fault;
 mod gate;
 mod graph;
 pub mod laws;
-#[cfg(test)]
-mod worked;
 mod memory;
 mod outside;
 mod standard;
+#[cfg(test)]
+mod worked;
 
 pub use fault::{Failed, FaultKind, InputFault, OutOfMemory, ReadError};
 pub use gate::{Gate, GateEvent, OpenGate};

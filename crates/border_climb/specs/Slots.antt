@@ -1,5 +1,5 @@
 -- The numbers of a part: each has a cell or is free.
-use Rattle.std.specs.Prelude.{◌≡◌, ℕ, ◌<◌, ◌^◌, length, Bool, true, false, List, count_by, Option, Some, None, slice_get, nat_le, if◌then◌else◌}
+use Rattle.std.specs.Prelude.{◌≡◌, ℕ, ◌+◌, ◌<◌, ◌^◌, length, Bool, true, false, List, count_by, Option, Some, None, slice_get, nat_le, if◌then◌else◌}
 use Rattle.border_climb.specs.declared.links.Cell.{Cell}
 use Rattle.border_climb.specs.declared.links.Met.{Met}
 use Rattle.border_climb.specs.declared.links.Slot.{Slot}
@@ -28,6 +28,18 @@ ranks_from least (Some (Free next)) = false
 abbrev pub reached : List Slot → ℕ → Option ℕ → Option ℕ
 reached slots least None = None
 reached slots least (Some id) = if ranks_from least (slice_get slots id) then Some id else None
+
+-- the rank of the cell in a slot, or 0 where there is none
+abbrev pub slot_rank : Option Slot → ℕ
+slot_rank None = 0
+slot_rank (Some (Used cell)) = cell.rank
+slot_rank (Some (Free next)) = 0
+
+-- the number above the cell in a slot, where its cell has a higher rank than that
+abbrev pub above_slot : List Slot → ℕ → Option Slot → Option ℕ
+above_slot slots rank None = None
+above_slot slots rank (Some (Used cell)) = reached slots (rank + 1) cell.up
+above_slot slots rank (Some (Free next)) = None
 
 -- the number that a climb has met, if it met one
 abbrev pub met_number : Option Met → Option ℕ

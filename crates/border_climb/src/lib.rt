@@ -3,7 +3,7 @@
 
 mod given;
 mod links;
-//mod part;
+mod part;
 
 pub use given::Given;
-//pub use part::Part;
+pub use part::Part;

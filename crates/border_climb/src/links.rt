@@ -1,6 +1,6 @@
-ghost use Rattle.std.specs.Prelude.{◌≡◌, ℕ, ◌+◌, ◌^◌, ◌<◌, ◌≤◌, length, vec_len, replicate, None, IfSome, IfOk, OnSome, IfNone, IsTrue, slice_get, true};
+ghost use Rattle.std.specs.Prelude.{◌≡◌, ℕ, ◌+◌, ◌^◌, ◌<◌, ◌≤◌, length, vec_len, replicate, None, slice_index_or, IfSome, IfOk, OnSome, IfNone, IsTrue, slice_get, true};
 ghost use Rattle.std.specs.Option.{ForSome};
-ghost use Rattle.border_climb.specs.Slots.{is_used, free_numbers, reached, met_number, KeepsUsed, SameNumbers, IsMet};
+ghost use Rattle.border_climb.specs.Slots.{is_used, free_numbers, reached, slot_rank, above_slot, met_number, KeepsUsed, SameNumbers, IsMet};
 ghost use Rattle.border_climb.specs.Given.{joined_by};
 
 use crate::given::Given;
@@ -84,6 +84,7 @@ impl Links {
         ensures used { IfSome result (λ met. is_used (slice_get self.now.slots.items met.id) ≡ true) }
         ensures from { IfSome result (λ met. least ≤ met.rank) }
         ensures rank { IfSome result (λ met. met.rank < 2 ^ 32) }
+        ensures rank_is { IfSome result (λ met. met.rank ≡ slot_rank (slice_get self.now.slots.items met.id)) }
     {
         let id = number?;
         match self.slots.get(id as usize) {
@@ -98,14 +99,49 @@ impl Links {
     // The cell above one that was met. It has a higher rank: that every link leads to a used cell of higher
     // rank isn't yet proved, so a link that doesn't is taken for none.
     pub(crate) fn above(&self, met: Met) -> Option<Met>
+        ensures value { met_number result ≡ above_slot self.now.slots.items met.rank (slice_get self.now.slots.items met.id) }
         ensures used { IfSome result (λ above. is_used (slice_get self.now.slots.items above.id) ≡ true) }
         ensures higher { IfSome result (λ above. met.rank < above.rank) }
         ensures rank { IfSome result (λ above. above.rank < 2 ^ 32) }
+        ensures rank_is { IfSome result (λ above. above.rank ≡ slot_rank (slice_get self.now.slots.items above.id)) }
     {
         match self.slots.get(met.id as usize) {
             Some(Slot::Used(cell)) => self.reach(cell.up, met.rank as u64 + 1),
             _ => None,
         }
+    }
+
+    // The rank of a cell.
+    pub(crate) fn rank(&self, id: u32) -> u32
+        requires { is_used (slice_get self.now.slots.items id) ≡ true }
+        ensures { result ≡ slot_rank (slice_get self.now.slots.items id) }
+    {
+        match self.slots[id as usize] {
+            Slot::Used(cell) => cell.rank,
+            Slot::Free(_) => unreachable!(),
+        }
+    }
+
+    // The number of the first cell above a place.
+    pub(crate) fn above_place(&self, place: u32) -> Option<u32>
+        requires { place < length self.now.places.items }
+        ensures value { result ≡ reached self.now.slots.items 0 (slice_index_or self.now.places.items place None) }
+        ensures used { IfSome result (λ id. is_used (slice_get self.now.slots.items id) ≡ true) }
+    {
+        let met = self.reach(self.places[place as usize], 0)?;
+        Some(met.id)
+    }
+
+    // The number of the cell above a cell.
+    pub(crate) fn above_cell(&self, id: u32) -> Option<u32>
+        requires { is_used (slice_get self.now.slots.items id) ≡ true }
+        ensures value { result ≡ above_slot self.now.slots.items (slot_rank (slice_get self.now.slots.items id)) (slice_get self.now.slots.items id) }
+        ensures used { IfSome result (λ above. is_used (slice_get self.now.slots.items above) ≡ true) }
+        ensures higher { IfSome result (λ above. slot_rank (slice_get self.now.slots.items id) < slot_rank (slice_get self.now.slots.items above)) }
+    {
+        let rank = self.rank(id);
+        let met = self.above(Met { id, rank })?;
+        Some(met.id)
     }
 
     // Takes the first free number for a cell of that rank with nothing above it.

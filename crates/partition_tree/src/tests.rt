@@ -1,4 +1,9 @@
+ghost use Rattle.partition_tree.specs.Ranked.{IsRankedList};
+
 use super::{Ranked, Tree, write_tree};
+use hg_base::OutOfMemory;
+use std::alloc::Global;
+use std::process::Abort;
 use std::test::Fail;
 
 // Edges in order, from lists of ends, number and altitude.
@@ -45,19 +50,22 @@ const APART: [Ranked; 1] = [Ranked {
     altitude: 4,
 }];
 
+fn assert_report(rt: &impl Abort, alloc: Global, n: u32, list: &[Ranked], report: &str) -> Result<(), OutOfMemory>
+    requires { IsRankedList n list.now }
+{
+    let tree = Tree::of_list(alloc, n, list)?;
+    let text = write_tree(alloc, &tree)?;
+    assert_eq!(rt; text.as_slice(), report.as_bytes());
+    Ok(())
+}
+
 #[test]
 fn reports(rt: HostRuntime) -> Result<(), Fail> {
-    let alloc = rt.alloc();
-    let rows = [
-        (Tree::of_list(alloc, 3, &PATH)?, "tree 5 3\n0 4 0\n1 3 0\n2 3 0\n3 4 3\n4 4 5\n"),
-        (Tree::of_list(alloc, 1, &[])?, "tree 1 1\n0 0 0\n"),
-        (Tree::of_list(alloc, 3, &TRIANGLE)?, "tree 5 3\n0 3 0\n1 3 0\n2 4 0\n3 4 1\n4 4 1\n"),
-        (Tree::of_list(alloc, 3, &APART)?, "tree 4 3\n0 3 0\n1 3 0\n2 2 0\n3 3 4\n"),
-        (Tree::of_list(alloc, 2, &[])?, "tree 2 2\n0 0 0\n1 1 0\n"),
-    ];
-    for (tree, text) in &rows {
-        assert_eq!(rt; write_tree(alloc, tree)?.as_slice(), text.as_bytes());
-    }
+    assert_report(&rt, rt.alloc(), 3, &PATH, "tree 5 3\n0 4 0\n1 3 0\n2 3 0\n3 4 3\n4 4 5\n")?;
+    assert_report(&rt, rt.alloc(), 1, &[], "tree 1 1\n0 0 0\n")?;
+    assert_report(&rt, rt.alloc(), 3, &TRIANGLE, "tree 5 3\n0 3 0\n1 3 0\n2 4 0\n3 4 1\n4 4 1\n")?;
+    assert_report(&rt, rt.alloc(), 3, &APART, "tree 4 3\n0 3 0\n1 3 0\n2 2 0\n3 3 4\n")?;
+    assert_report(&rt, rt.alloc(), 2, &[], "tree 2 2\n0 0 0\n1 1 0\n")?;
     Ok(())
 }
 

@@ -1,0 +1,6 @@
+pub mod Texts
+pub mod Steps
+pub mod Chains
+pub mod Takes
+pub mod Decoding
+pub mod Pictures

@@ -1,6 +1,7 @@
 pub mod Link
 pub mod Members
 pub mod Walks
+pub mod Lines
 pub mod OutsideLemmas
 pub mod Sets
 pub mod Fronts

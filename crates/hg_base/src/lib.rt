@@ -5,6 +5,9 @@ mod fault;
 mod gate;
 mod graph;
 pub mod laws;
+mod text;
+#[cfg(test)]
+mod worked;
 mod memory;
 mod outside;
 mod standard;
@@ -14,6 +17,7 @@ mod worked;
 pub use fault::{Failed, FaultKind, InputFault, OutOfMemory, ReadError};
 pub use gate::{Gate, GateEvent, OpenGate};
 pub use graph::{Edge, Graph, PlacedEdge, RankedEdge, Room};
+pub use text::{push_headed_line, push_line};
 pub use memory::{MemSink, MemSource, QuietSource, TallySink};
 pub use outside::{Sink, Source, write_all};
 pub use standard::{StdSink, StdSource};

@@ -5,3 +5,4 @@ pub mod Rank
 pub mod Tree
 pub mod Text
 pub mod Fault
+pub mod Outside

@@ -2,7 +2,11 @@
 #![tactic(auto)]
 
 mod fault;
+mod gate;
 mod graph;
+mod outside;
 
 pub use fault::{Failed, FaultKind, InputFault, OutOfMemory, ReadError};
+pub use gate::{Gate, GateEvent, OpenGate};
 pub use graph::{Edge, Graph, PlacedEdge, RankedEdge, Room};
+pub use outside::{Sink, Source, write_all};

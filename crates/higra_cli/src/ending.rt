@@ -1,0 +1,38 @@
+// How a run ends.
+ghost use Rattle.std.specs.Prelude.{◌≡◌};
+ghost use Rattle.higra_cli.specs.Ending.{code_of};
+
+use hg_base::InputFault;
+
+/// How a run ended.
+#[derive(Debug, Drop)]
+pub enum Status {
+    /// The report was written.
+    Success,
+    /// The words ask for nothing.
+    Usage,
+    /// The input has this fault.
+    Input(InputFault),
+    /// A read of the source failed.
+    ReadFailed,
+    /// A write of the report failed.
+    WriteFailed,
+    /// There was no memory left.
+    OutOfMemory,
+}
+
+impl Status {
+    /// The code with which the program ends.
+    pub fn code(&self) -> u8
+        ensures { result ≡ code_of self.now }
+    {
+        match self {
+            Status::Success => 0,
+            Status::Usage => 2,
+            Status::Input(_) => 3,
+            Status::ReadFailed => 4,
+            Status::WriteFailed => 5,
+            Status::OutOfMemory => 6,
+        }
+    }
+}

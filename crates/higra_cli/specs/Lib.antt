@@ -1,2 +1,5 @@
-pub mod Request
 pub mod Ending
+pub mod Feeding
+pub mod Reading
+pub mod Request
+pub mod Running

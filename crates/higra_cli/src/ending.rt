@@ -2,7 +2,12 @@
 ghost use Rattle.std.specs.Prelude.{◌≡◌};
 ghost use Rattle.higra_cli.specs.Ending.{code_of};
 
-use hg_base::InputFault;
+use std::alloc::AllocError;
+
+use hg_base::{InputFault, OutOfMemory};
+
+use super::request::WordsFault;
+use super::writing::RunFault;
 
 /// How a run ended.
 #[derive(Debug, Drop)]
@@ -33,6 +38,56 @@ impl Status {
             Status::ReadFailed => 4,
             Status::WriteFailed => 5,
             Status::OutOfMemory => 6,
+        }
+    }
+}
+
+impl From<AllocError> for Status {
+    ghost use Rattle.std.specs.Prelude.{◌≡◌};
+    ghost use Rattle.higra_cli.specs.declared.ending.Status.TheVariants as statuses;
+
+    ghost from_gives = { λ _ status. status ≡ statuses.OutOfMemory };
+
+    fn from(_error: AllocError) -> Status {
+        Status::OutOfMemory
+    }
+}
+
+impl From<OutOfMemory> for Status {
+    ghost use Rattle.std.specs.Prelude.{◌≡◌};
+    ghost use Rattle.higra_cli.specs.declared.ending.Status.TheVariants as statuses;
+
+    ghost from_gives = { λ _ status. status ≡ statuses.OutOfMemory };
+
+    fn from(_error: OutOfMemory) -> Status {
+        Status::OutOfMemory
+    }
+}
+
+impl From<WordsFault> for Status {
+    ghost use Rattle.std.specs.Prelude.{◌≡◌};
+    ghost use Rattle.higra_cli.specs.Ending.{status_of_words};
+
+    ghost from_gives = { λ fault status. status ≡ status_of_words fault };
+
+    fn from(fault: WordsFault) -> Status {
+        match fault {
+            WordsFault::Usage => Status::Usage,
+            WordsFault::OutOfMemory => Status::OutOfMemory,
+        }
+    }
+}
+
+impl From<RunFault> for Status {
+    ghost use Rattle.std.specs.Prelude.{◌≡◌};
+    ghost use Rattle.higra_cli.specs.Ending.{status_of_fault};
+
+    ghost from_gives = { λ fault status. status ≡ status_of_fault fault };
+
+    fn from(fault: RunFault) -> Status {
+        match fault {
+            RunFault::Input(fault) => Status::Input(fault),
+            RunFault::OutOfMemory => Status::OutOfMemory,
         }
     }
 }

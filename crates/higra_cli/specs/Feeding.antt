@@ -1,0 +1,28 @@
+-- What feeding a source to a decoder comes to.
+use Rattle.std.specs.Prelude.{◌≡◌, ℕ, ◌≤◌, List, length, Option}
+use Rattle.std.specs.Io.KnownBytes.{Consumes, IsAtEnd}
+use Rattle.hg_base.specs.Outside.{Rose}
+use Rattle.graph_reader.specs.Progress.{Progress, HasRead}
+use Rattle.higra_cli.specs.Reading.{Told, too_long, GaveTooMuch}
+use Rattle.higra_cli.specs.declared.ending.Status.{Status}
+use Rattle.higra_cli.specs.declared.ending.Status.TheVariants as statuses
+
+-- the source gave these bytes so far, and the decoder has read them
+pub record HasFed (old new : Told) (decoder : Progress) (bytes : List ℕ) : Type 0 where
+  pub gave : Consumes old.bytes new.bytes bytes
+  pub read : HasRead decoder bytes
+  pub short : length bytes ≤ 134217728
+  pub quiet : new.faults ≡ old.faults
+
+-- all of the source was fed
+abbrev pub HasFedAll : Told → Told → Progress → Type 0
+HasFedAll old new decoder = (bytes : List ℕ) × (HasFed old new decoder bytes × IsAtEnd new.bytes)
+
+-- feeding ended the run with this status
+abbrev pub StopsFeeding : Told → Told → Status → Type 0
+StopsFeeding old new (statuses.Input fault) = (fault ≡ too_long) × ((new.faults ≡ old.faults) × ((bytes : List ℕ) × GaveTooMuch old.bytes new.bytes bytes))
+StopsFeeding old new statuses.ReadFailed = Rose old.faults new.faults
+StopsFeeding old new statuses.OutOfMemory = Unit {0}
+StopsFeeding old new statuses.Success = ⊥
+StopsFeeding old new statuses.Usage = ⊥
+StopsFeeding old new statuses.WriteFailed = ⊥

@@ -4,9 +4,13 @@
 mod fault;
 mod gate;
 mod graph;
+mod memory;
 mod outside;
+mod standard;
 
 pub use fault::{Failed, FaultKind, InputFault, OutOfMemory, ReadError};
 pub use gate::{Gate, GateEvent, OpenGate};
 pub use graph::{Edge, Graph, PlacedEdge, RankedEdge, Room};
+pub use memory::{MemSink, MemSource, QuietSource, TallySink};
 pub use outside::{Sink, Source, write_all};
+pub use standard::{StdSink, StdSource};

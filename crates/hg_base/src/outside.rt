@@ -1,5 +1,5 @@
 // Where a run reads from and writes to.
-ghost use Rattle.std.specs.Prelude.{◌≡◌, ℕ, ◌<◌, ◌≤◌, List, length, drop, Option, IfOk, OnOk, OnErr, MatchResult};
+ghost use Rattle.std.specs.Prelude.{◌≡◌, ℕ, ◌<◌, ◌≤◌, List, length, drop, Option, IfOk, take, OnOk, OnErr, MatchResult};
 ghost use Rattle.std.specs.Io.KnownBytes.{Appends, ReadConsumes, WriteAppends};
 ghost use Rattle.hg_base.specs.Outside.{HasCause, AppendsPrefix};
 
@@ -62,3 +62,16 @@ pub fn write_all<K: Sink>(sink: &mut K, bytes: &[u8]) -> Result<(), Failed>
     }
     Ok(())
 }
+
+// Copies the first `count` bytes of `from` to the front of `into`.
+pub(crate) fn copy_front(from: &[u8], count: usize, into: &mut [u8])
+    requires from { count ≤ length from.now }
+    requires into { count ≤ length into.old }
+    ensures front { take count into.new ≡ take count from.now }
+    ensures rest { drop count into.new ≡ drop count into.old }
+{
+    into[..count].copy_from_slice(&from[..count]);
+}
+
+#[cfg(test)]
+mod tests;

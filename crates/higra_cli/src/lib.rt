@@ -17,3 +17,6 @@ pub use request::{Form, Made, Report, Request, WordsFault, request_of};
 pub use running::run;
 pub use words::Words;
 pub use writing::{RunFault, report};
+
+#[cfg(test)]
+mod tests;

@@ -1,0 +1,5 @@
+pub mod Counts
+pub mod Pigeons
+pub mod Ranks
+pub mod Sorted
+pub mod Rows

@@ -1,0 +1,6 @@
+//! The order of a graph's edges: by weight, then by number.
+#![tactic(auto)]
+
+mod order;
+
+pub use order::Order;

@@ -1,0 +1,167 @@
+ghost use Rattle.std.specs.Prelude.{◌≡◌, ℕ, ◌+◌, ◌<◌, ◌≤◌, ◌∷◌, [], ◌++◌, length, map, take, slice_get, Some, IfOk, All};
+ghost use Rattle.hg_base.specs.Graph.{JoinsTwo, weight};
+ghost use Rattle.hg_base.specs.Rank.{numbers, number_at, rank, ranked};
+ghost use Rattle.edge_order.specs.Order.{order_of, number_at_rank, with_number, without_rank};
+ghost use Rattle.edge_order.specs.Tables.{keys_of, sorted_keys_of, ranks_of, listed_row, HasEnds};
+
+use hg_base::{Edge, Graph, OutOfMemory, RankedEdge};
+use std::alloc::{AllocError, Global};
+use std::marker::Model;
+use std::thread::Threads;
+
+/// An edge with its rank and its number.
+#[derive(Clone, Copy)]
+struct NumberedEdge {
+    edge: RankedEdge,
+    number: u32,
+}
+
+/// The edges of a graph in order of rank: by weight, then by number.
+#[derive(Drop)]
+pub struct Order {
+    n: u32,
+    // The edges by rank.
+    edges: Vec<NumberedEdge>,
+    // The rank of each edge by its number.
+    ranks: Vec<u32>,
+}
+
+impl Model for Order {
+    ghost use Rattle.edge_order.specs.Order.{EdgeOrder};
+
+    ghost Value = { EdgeOrder };
+
+    ghost use Rattle.edge_order.specs.OrderFields.{order_in, IsTable};
+
+    ghost view = { order_in };
+
+    ghost invariant = { IsTable };
+}
+
+/// The weight and the number of each edge, by number.
+fn keys(alloc: Global, graph: &Graph) -> Result<Vec<(u32, u32)>, AllocError>
+    ensures { IfOk result (λ v. v.items ≡ keys_of graph.now) }
+{
+    let mut keys = Vec::with_capacity(alloc, graph.m() as usize)?;
+    for number in 0..graph.m() {
+        keys.push((graph.edge(number).w, number))?;
+    }
+    Ok(keys)
+}
+
+/// The weight and the number of each edge, by rank.
+fn sorted_keys(alloc: Global, graph: &Graph) -> Result<Vec<(u32, u32)>, AllocError>
+    ensures { IfOk result (λ v. v.items ≡ sorted_keys_of graph.now) }
+{
+    let mut keys = keys(alloc, graph)?;
+    keys.sort_unstable();
+    Ok(keys)
+}
+
+/// The edges by rank.
+fn edges_by_rank(
+    alloc: Global,
+    graph: &Graph,
+    keys: &[(u32, u32)],
+) -> Result<Vec<NumberedEdge>, AllocError>
+    requires { keys.now ≡ sorted_keys_of graph.now }
+    ensures edges { IfOk result (λ v. map listed_row v.items ≡ ranked graph.now) }
+    ensures ends { IfOk result (λ v. All (HasEnds graph.now.n) v.items) }
+    ensures few { IfOk result (λ v. length v.items ≤ 4194304) }
+{
+    let mut edges = Vec::with_capacity(alloc, keys.len())?;
+    for rank in 0..graph.m() {
+        let (_, number) = keys[rank as usize];
+        let Edge { u, v, w } = graph.edge(number);
+        edges.push(NumberedEdge {
+            edge: RankedEdge { rank, u, v, w },
+            number,
+        })?;
+    }
+    Ok(edges)
+}
+
+/// The rank of each edge by its number.
+fn ranks_by_number(
+    alloc: Global,
+    graph: &Graph,
+    keys: &[(u32, u32)],
+) -> Result<Vec<u32>, AllocError>
+    requires { keys.now ≡ sorted_keys_of graph.now }
+    ensures { IfOk result (λ v. v.items ≡ ranks_of graph.now) }
+{
+    let mut ranks = vec![in alloc; 0; graph.m() as usize]?;
+    for rank in 0..graph.m() {
+        let (_, number) = keys[rank as usize];
+        ranks[number as usize] = rank;
+    }
+    Ok(ranks)
+}
+
+impl Order {
+    /// The order of all edges of a graph. The error is want of memory.
+    pub fn of(
+        _rt: &(impl Threads + Sync),
+        alloc: Global,
+        graph: &Graph,
+    ) -> Result<Order, OutOfMemory>
+        ensures { IfOk result (λ order. order ≡ order_of graph.now) }
+    {
+        Order::from_graph(alloc, graph).map_err(|_| OutOfMemory)
+    }
+
+    fn from_graph(alloc: Global, graph: &Graph) -> Result<Order, AllocError>
+        ensures { IfOk result (λ order. order ≡ order_of graph.now) }
+    {
+        let keys = sorted_keys(alloc, graph)?;
+        let edges = edges_by_rank(alloc, graph, &keys)?;
+        let ranks = ranks_by_number(alloc, graph, &keys)?;
+        Ok(Order {
+            n: graph.n(),
+            edges,
+            ranks,
+        })
+    }
+
+    /// The number of edges.
+    pub fn len(&self) -> u32
+        ensures value { result ≡ length self.now.edges }
+        ensures edges { result ≤ 4194304 }
+    {
+        self.edges.len() as u32
+    }
+
+    /// The edge at rank `k`.
+    pub fn at(&self, k: u32) -> RankedEdge
+        requires { k < length self.now.edges }
+        ensures value { slice_get self.now.edges k ≡ Some (with_number result (number_at_rank self.now k)) }
+        ensures rank { result.rank ≡ k }
+        ensures ends { JoinsTwo self.now.n (without_rank result) }
+        ensures next { let edge = with_number result (number_at_rank self.now k) in
+            take (k + 1) self.now.edges ≡ take k self.now.edges ++ edge ∷ [] }
+    {
+        self.edges[k as usize].edge
+    }
+
+    /// The number of the edge at rank `k`.
+    pub fn edge_at(&self, k: u32) -> u32
+        requires { k < length self.now.edges }
+        ensures value { result ≡ number_at_rank self.now k }
+        ensures below { result < length self.now.edges }
+    {
+        self.edges[k as usize].number
+    }
+
+    /// The rank of edge number `e`.
+    pub fn rank_of(&self, e: u32) -> u32
+        requires { e < length self.now.edges }
+        ensures value { number_at_rank self.now result ≡ e }
+        ensures below { result < length self.now.edges }
+        ensures only { (k : ℕ) → k < length self.now.edges → number_at_rank self.now k ≡ e → k ≡ result }
+    {
+        self.ranks[e as usize]
+    }
+}
+
+#[cfg(test)]
+mod tests;

@@ -70,6 +70,18 @@ impl Graph {
         }
     }
 
+    /// The graph with these areas, one for each vertex, and these edges.
+    pub fn with_areas(n: u32, areas: Vec<u32>, edges: Vec<Edge>) -> Graph
+        requires { IsGraph (record { n = n; areas = areas.items; edges = edges.items }) }
+        ensures { result ≡ record { n = n; areas = areas.items; edges = edges.items } }
+    {
+        Graph {
+            n,
+            areas: Some(areas),
+            edges,
+        }
+    }
+
     /// The number of vertices.
     pub fn n(&self) -> u32
         ensures value { result ≡ self.now.n }
@@ -94,5 +106,16 @@ impl Graph {
         ensures ends { JoinsTwo self.now.n result }
     {
         self.edges[e as usize]
+    }
+
+    /// The area of this vertex.
+    pub fn area(&self, v: u32) -> u32
+        requires { v < self.now.n }
+        ensures { slice_get self.now.areas v ≡ Some result }
+    {
+        match &self.areas {
+            Some(areas) => areas[v as usize],
+            None => 1,
+        }
     }
 }

@@ -1,0 +1,143 @@
+-- A decoder that has read some bytes, one byte later and at the end.
+use Rattle.std.proofs.Common.{◌≡◌, ℕ, suc, ◌+◌, Bool, true, false, List, [], ◌∷◌, ◌++◌, length, refl, sym, ap, ◌∙◌, subst, arith, append_assoc, append-nil, length-append, zero-add, add-zero}
+use Rattle.std.specs.Prelude.{Result, Err, nat_lt}
+use Rattle.hg_base.specs.Graph.{WeightedGraph}
+use Rattle.hg_base.specs.declared.fault.InputFault.{InputFault}
+use Rattle.hg_base.specs.declared.fault.ReadError.{ReadError}
+use Rattle.hg_base.specs.declared.fault.ReadError.TheVariants.{OutOfMemory}
+use Rattle.graph_reader.specs.declared.token.Token.{Token}
+use Rattle.graph_reader.specs.declared.lexer.Text.{Text}
+use Rattle.graph_reader.specs.declared.lexer.Lexer.{Lexer}
+use Rattle.graph_reader.specs.declared.lexer.Lexer.TheVariants.{Between, Comment, Inside}
+use Rattle.graph_reader.specs.declared.parser.Stage.{Stage}
+use Rattle.graph_reader.specs.declared.parser.Stage.TheVariants as stages
+use Rattle.graph_reader.specs.Tokens.{PlacedToken, blanked, tokens_from}
+use Rattle.graph_reader.specs.EdgeList.{edge_list, ended, settles}
+use Rattle.graph_reader.specs.Lexing.{meaning_with, lexed}
+use Rattle.graph_reader.specs.Parsing.{Parsing, Takes, reading_at, settling, is_out_of_memory, is_counting}
+use Rattle.graph_reader.specs.Progress.{Progress, HasRead, Answers, reading_on, settles_with}
+
+abbrev progress : ℕ → Lexer → Parsing → Progress
+progress n l p = record { taken = n; lexer = l; parsing = p }
+
+shift : (place n : ℕ) → place + suc n ≡ (place + 1) + n
+shift place n = omega arith
+
+within : (n k : ℕ) → nat_lt n ((n + 1) + k) ≡ true
+within n k = grind arith
+
+none-past : (n : ℕ) → nat_lt n n ≡ false
+none-past n = grind arith
+
+not-counting : (s : Stage) → is_out_of_memory s ≡ true → is_counting s ≡ false
+not-counting stages.Edges e = cc
+not-counting _ e = refl
+
+back : (a b : Bool) → (a ≡ true → b ≡ true) → b ≡ false → a ≡ false
+back true b h e = let t : b ≡ true = h refl in cc
+back false b h e = refl
+
+pub runs-out : (p q : Parsing) (at : ℕ) (token : Token) → Takes p q at token → is_out_of_memory p.stage ≡ true → is_out_of_memory q.stage ≡ true
+runs-out p q at token takes e = takes.memory (not-counting p.stage e) ∙ e
+
+-- nothing has been read
+pub read-nothing : (m : Parsing) → m.stage ≡ stages.FirstWord → HasRead (progress 0 Between m) []
+unfolding reading_at settling lexed edge_list settles reading_on settles_with
+read-nothing m e = rw e (record { taken = refl; reading = λ memory rest. rw zero-add refl; settling = λ rest. rw zero-add refl })
+
+-- a byte that ends no token
+pub read-quiet : (p : Parsing) (l k : Lexer) (n b : ℕ) (bytes : List ℕ) → ((rest : List ℕ) → lexed l n (b ∷ rest) ≡ lexed k (n + 1) rest)
+    → HasRead (progress n l p) bytes → HasRead (progress (n + 1) k p) (bytes ++ b ∷ [])
+unfolding reading_on settles_with
+read-quiet p l k n b bytes tokens read = record {
+  taken = rw (length-append, read.taken) refl;
+  reading = λ memory rest. rw (append_assoc, ← read.reading memory (b ∷ rest), tokens rest, shift n (length rest)) refl;
+  settling = λ rest. rw (append_assoc, ← read.settling (b ∷ rest), tokens rest, shift n (length rest)) refl;
+}
+
+ended-first : (n end at : ℕ) (token : Token) (ts : List PlacedToken) → nat_lt n end ≡ true
+    → ended end (record { from = at; to = n; token = token } ∷ ts) ≡ record { from = at; to = n; token = token } ∷ ended end ts
+ended-first n end at token ts h = rw h refl
+
+-- the token before the last byte has ended
+ended-token : (n k at : ℕ) (token : Token) (ts : List PlacedToken)
+    → ended (n + suc k) (record { from = at; to = n; token = token } ∷ ts) ≡ record { from = at; to = n; token = token } ∷ ended ((n + 1) + k) ts
+ended-token n k at token ts =
+    ap (λ (end : ℕ). ended end (record { from = at; to = n; token = token } ∷ ts)) (shift n k)
+    ∙ ended-first n ((n + 1) + k) at token ts (within n k)
+
+-- a byte that ends a token
+pub read-token : (p q : Parsing) (l k : Lexer) (n b at : ℕ) (token : Token) (bytes : List ℕ) → Takes p q at token
+    → ((rest : List ℕ) → lexed l n (b ∷ rest) ≡ record { from = at; to = n; token = token } ∷ lexed k (n + 1) rest)
+    → HasRead (progress n l p) bytes → HasRead (progress (n + 1) k q) (bytes ++ b ∷ [])
+unfolding reading_on settles_with
+read-token p q l k n b at token bytes takes tokens read = record {
+  taken = rw (length-append, read.taken) refl;
+  reading = λ memory rest.
+      let before = back _ _ (runs-out p q at token takes) memory in
+      rw (append_assoc, ← read.reading before (b ∷ rest), tokens rest, shift n (length rest))
+      (takes.reading memory n ((n + 1) + length rest) (lexed k (n + 1) rest));
+  settling = λ rest.
+      takes.settling n (ended ((n + 1) + length rest) (lexed k (n + 1) rest))
+      ∙ ap (settling p.stage) (sym (ended-token n (length rest) at token (lexed k (n + 1) rest)))
+      ∙ ap (λ (ts : List PlacedToken). settling p.stage (ended (n + suc (length rest)) ts)) (sym (tokens rest))
+      ∙ read.settling (b ∷ rest)
+      ∙ ap settles (sym (append_assoc bytes (b ∷ []) rest));
+}
+
+settled-more : (s : Stage) (ts : List PlacedToken) → settling s [] ≡ true → settling s ts ≡ true
+unfolding settling
+settled-more stages.FirstWord ts e = cc
+settled-more stages.Vertices ts e = cc
+settled-more stages.Edges ts e = cc
+settled-more _ ts e = refl
+
+settled-not-counting : (s : Stage) → settling s [] ≡ true → is_counting s ≡ false
+unfolding settling
+settled-not-counting stages.Edges e = cc
+settled-not-counting _ e = refl
+
+-- once the header is settled, a token neither changes that nor takes memory
+pub stays-settled : (p q : Parsing) (at : ℕ) (token : Token) → Takes p q at token → settling p.stage [] ≡ true
+    → (settling q.stage [] ≡ true) × (is_out_of_memory q.stage ≡ is_out_of_memory p.stage)
+stays-settled p q at token takes e =
+    (takes.settling 0 [] ∙ settled-more p.stage _ e, takes.memory (settled-not-counting p.stage e))
+
+-- at the end no token has ended that had not before
+none-ends : (l : Lexer) (n : ℕ) → ended (n + 0) (lexed l n []) ≡ []
+unfolding lexed blanked tokens_from
+none-ends Between n = refl
+none-ends Comment n = refl
+none-ends (Inside from text) n = rw (none-past (n + 0)) refl
+
+pub sized-exact : (d : Progress) (bytes : List ℕ) → HasRead d bytes → settling d.parsing.stage [] ≡ settles bytes
+unfolding settles_with
+sized-exact d bytes read = rw (← append-nil bytes, ← read.settling [], none-ends d.lexer d.taken) refl
+
+answered-by : (r : Result WeightedGraph ReadError) (x y : Result WeightedGraph InputFault) (out : Bool)
+    → (out ≡ false → x ≡ y) → (out ≡ false → Answers r x) → (out ≡ true → r ≡ Err OutOfMemory) → Answers r y
+answered-by r x y false same answers none = subst (λ (z : Result WeightedGraph InputFault). Answers r z) (same refl) (answers refl)
+answered-by r x y true same answers none = rw (none refl) tt
+
+-- an answer to what is still to come is an answer to all that was read
+pub answered : (r : Result WeightedGraph ReadError) (d : Progress) (bytes : List ℕ) → HasRead d bytes
+    → (is_out_of_memory d.parsing.stage ≡ false → Answers r (reading_on d []))
+    → (is_out_of_memory d.parsing.stage ≡ true → r ≡ Err OutOfMemory)
+    → Answers r (edge_list bytes)
+answered r d bytes read answers none =
+    answered-by r (reading_on d []) (edge_list bytes) (is_out_of_memory d.parsing.stage)
+    (λ memory. read.reading memory [] ∙ ap edge_list (append-nil bytes)) answers none
+
+-- nothing more is read at the end but a token that goes up to it
+pub at-end : (n : ℕ) (p : Parsing) → reading_on (progress n Between p) [] ≡ reading_at p.stage p n []
+unfolding reading_on lexed blanked tokens_from
+at-end n p = rw add-zero refl
+
+pub at-end-of-comment : (n : ℕ) (p : Parsing) → reading_on (progress n Comment p) [] ≡ reading_at p.stage p n []
+unfolding reading_on lexed blanked tokens_from
+at-end-of-comment n p = rw add-zero refl
+
+pub at-end-of-token : (n at : ℕ) (text : Text) (p : Parsing)
+    → reading_on (progress n (Inside at text) p) [] ≡ reading_at p.stage p n (record { from = at; to = n; token = meaning_with text [] } ∷ [])
+unfolding reading_on lexed blanked tokens_from
+at-end-of-token n at text p = rw add-zero refl

@@ -1,0 +1,5 @@
+pub mod Texts
+pub mod Steps
+pub mod Chains
+pub mod Takes
+pub mod Decoding

@@ -1,0 +1,133 @@
+-- The grammar of edge lists: one rule for each token, and the first fault from the left.
+use Rattle.std.specs.Prelude.{ℕ, zero, suc, Bool, true, false, ◌||◌, ◌==◌, nat_lt, if◌then◌else◌, List, [], ◌∷◌, length, replicate, Result, Ok, Err, is_err}
+use Rattle.std.specs.List.{filter}
+use Rattle.hg_base.specs.Graph.{WeightedGraph}
+use Rattle.hg_base.specs.declared.graph.Edge.{Edge}
+use Rattle.hg_base.specs.declared.fault.FaultKind.{FaultKind}
+use Rattle.hg_base.specs.declared.fault.FaultKind.TheVariants.{UnknownForm, BadNumber, TooLarge, Truncated, Trailing, OutOfRange, Loop, NoVertex}
+use Rattle.hg_base.specs.declared.fault.InputFault.{InputFault}
+use Rattle.graph_reader.specs.declared.token.Token.{Token}
+use Rattle.graph_reader.specs.declared.token.Token.TheVariants.{Graph, GraphWithAreas, Number, Other}
+use Rattle.graph_reader.specs.Tokens.{PlacedToken, tokens}
+
+infixl 10 ◌>>=◌
+abbrev pub ◌>>=◌ : {A B : Type 0} → Result A InputFault → (A → Result B InputFault) → Result B InputFault
+(Ok x) >>= f = f x
+(Err fault) >>= f = Err fault
+
+abbrev pub fault : {A : Type 0} → FaultKind → ℕ → ℕ → Result A InputFault
+fault kind at value = Err (record { kind = kind; at = at; value = value })
+
+-- A rule says what a token at a place gives.
+
+-- the first word, and whether areas follow
+unfoldable pub first_word : ℕ → Token → Result Bool InputFault
+first_word at Graph = Ok false
+first_word at GraphWithAreas = Ok true
+first_word at (Number n) = fault UnknownForm at 0
+first_word at Other = fault UnknownForm at 0
+
+unfoldable pub number : ℕ → Token → Result ℕ InputFault
+number at (Number n) = Ok n
+number at Graph = fault BadNumber at 0
+number at GraphWithAreas = fault BadNumber at 0
+number at Other = fault BadNumber at 0
+
+abbrev pub at_most : ℕ → ℕ → ℕ → Result ℕ InputFault
+at_most limit at n = if nat_lt limit n then fault TooLarge at n else Ok n
+
+unfoldable pub vertices : ℕ → Token → Result ℕ InputFault
+vertices at token = do
+  n ← number at token
+  if n == 0 then fault NoVertex at 0 else at_most 1048576 at n
+
+unfoldable pub edges : ℕ → Token → Result ℕ InputFault
+edges at token = do
+  m ← number at token
+  at_most 4194304 at m
+
+unfoldable pub area : ℕ → Token → Result ℕ InputFault
+area at token = do
+  a ← number at token
+  if a == 0 then fault BadNumber at 0 else at_most 4096 at a
+
+unfoldable pub first_end : ℕ → ℕ → Token → Result ℕ InputFault
+first_end n at token = do
+  u ← number at token
+  if nat_lt u n then Ok u else fault OutOfRange at u
+
+unfoldable pub second_end : ℕ → ℕ → ℕ → Token → Result ℕ InputFault
+second_end n u at token = do
+  v ← first_end n at token
+  if v == u then fault Loop at v else Ok v
+
+unfoldable pub weight : ℕ → Token → Result ℕ InputFault
+weight at token = do
+  w ← number at token
+  at_most 4294967295 at w
+
+-- the next token by its rule, and the tokens after it; missing is the fault where there is none
+abbrev pub next : {A : Type 0} → Result (A × List PlacedToken) InputFault → (ℕ → Token → Result A InputFault) → List PlacedToken → Result (A × List PlacedToken) InputFault
+next missing rule [] = missing
+next missing rule (t ∷ ts) = do
+  x ← rule t.from t.token
+  Ok (x, ts)
+
+-- the next token of an input that ends at this place
+abbrev pub need : {A : Type 0} → ℕ → (ℕ → Token → Result A InputFault) → List PlacedToken → Result (A × List PlacedToken) InputFault
+need end rule ts = next (fault Truncated end 0) rule ts
+
+-- one after another, as many as said
+unfoldable pub several : {A : Type 0} → ℕ → (List PlacedToken → Result (A × List PlacedToken) InputFault) → List PlacedToken → Result (List A × List PlacedToken) InputFault
+several zero one ts = Ok ([], ts)
+several (suc k) one ts = do
+  x ← one ts
+  xs ← several k one x.1
+  Ok (x.0 ∷ xs.0, xs.1)
+
+unfoldable pub edge : ℕ → ℕ → List PlacedToken → Result (Edge × List PlacedToken) InputFault
+edge n end ts = do
+  u ← need end (first_end n) ts
+  v ← need end (second_end n u.0) u.1
+  w ← need end weight v.1
+  Ok (record { u = u.0; v = v.0; w = w.0 }, w.1)
+
+-- the areas where they are given, or 1 for each vertex
+abbrev pub areas : Bool → ℕ → ℕ → List PlacedToken → Result (List ℕ × List PlacedToken) InputFault
+areas true n end ts = several n (need end area) ts
+areas false n end ts = Ok (replicate n 1, ts)
+
+-- the graph, where no token is left
+abbrev pub whole : WeightedGraph → List PlacedToken → Result WeightedGraph InputFault
+whole g [] = Ok g
+whole g (t ∷ ts) = fault Trailing t.from 0
+
+-- the graph that these tokens of an input with this end spell, or the first fault
+unfoldable pub graph : ℕ → List PlacedToken → Result WeightedGraph InputFault
+graph end ts = do
+  with_areas ← next (fault UnknownForm end 0) first_word ts
+  n ← need end vertices with_areas.1
+  m ← need end edges n.1
+  a ← areas with_areas.0 n.0 end m.1
+  e ← several m.0 (edge n.0 end) a.1
+  whole (record { n = n.0; areas = a.0; edges = e.0 }) e.1
+
+-- The graph of an edge list, or its first fault. Bytes that begin a picture have `P5` as their first token,
+-- so they are of an unknown form at 0.
+unfoldable pub edge_list : List ℕ → Result WeightedGraph InputFault
+edge_list bytes = graph (length bytes) (tokens bytes)
+
+-- whether these tokens settle how much memory the graph takes: the header's three, or an earlier one with a fault
+abbrev pub settle : List PlacedToken → Bool
+settle [] = false
+settle (word ∷ []) = is_err (first_word word.from word.token)
+settle (word ∷ n ∷ []) = is_err (first_word word.from word.token) || is_err (vertices n.from n.token)
+settle (word ∷ n ∷ m ∷ ts) = true
+
+-- the tokens that have ended: a byte stands behind them
+abbrev pub ended : ℕ → List PlacedToken → List PlacedToken
+ended end ts = filter (λ t. nat_lt t.to end) ts
+
+-- whether the ended tokens of these bytes settle how much memory the graph takes
+unfoldable pub settles : List ℕ → Bool
+settles bytes = settle (ended (length bytes) (tokens bytes))

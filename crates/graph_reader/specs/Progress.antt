@@ -1,0 +1,45 @@
+-- What a decoder has read, said by what is still to come.
+use Rattle.std.specs.Prelude.{◌≡◌, ℕ, ◌+◌, Bool, false, List, [], ◌++◌, length, Result, Ok, Err}
+use Rattle.hg_base.specs.Graph.{WeightedGraph}
+use Rattle.hg_base.specs.declared.fault.InputFault.{InputFault}
+use Rattle.hg_base.specs.declared.fault.ReadError.{ReadError}
+use Rattle.hg_base.specs.declared.fault.ReadError.TheVariants as errors
+use Rattle.graph_reader.specs.declared.lexer.Lexer.{Lexer}
+use Rattle.graph_reader.specs.Lexing.{lexed}
+use Rattle.graph_reader.specs.Parsing as parsing
+use Rattle.graph_reader.specs.Parsing.{Parsing}
+use Rattle.graph_reader.specs.EdgeList.{edge_list, ended, settles}
+
+-- a decoder as contracts see it: the number of bytes that were fed, and how far the reading has come
+pub record Progress : Type 0 where
+  pub taken : ℕ
+  pub lexer : Lexer
+  pub parsing : Parsing
+
+-- a call of `feed` answered that memory ran out
+abbrev pub is_out_of_memory : Progress → Bool
+is_out_of_memory d = parsing.is_out_of_memory d.parsing.stage
+
+-- what reading on through these bytes to the end gives
+unfoldable pub reading_on : Progress → List ℕ → Result WeightedGraph InputFault
+reading_on d rest = parsing.reading d.parsing (d.taken + length rest) (lexed d.lexer d.taken rest)
+
+-- whether the header is settled after these bytes
+unfoldable pub settles_with : Progress → List ℕ → Bool
+settles_with d rest = parsing.settling d.parsing.stage (ended (d.taken + length rest) (lexed d.lexer d.taken rest))
+
+-- how much memory the graph takes is known, and the memory is taken
+abbrev pub is_sized : Progress → Bool
+is_sized d = parsing.settling d.parsing.stage []
+
+-- The decoder has read these bytes: whatever follows, reading on from it is reading them and what follows.
+pub record HasRead (d : Progress) (bytes : List ℕ) : Type 0 where
+  pub taken : d.taken ≡ length bytes
+  pub reading : is_out_of_memory d ≡ false → (rest : List ℕ) → reading_on d rest ≡ edge_list (bytes ++ rest)
+  pub settling : (rest : List ℕ) → settles_with d rest ≡ settles (bytes ++ rest)
+
+-- an answer is the graph or the fault that was read, unless memory ran out
+abbrev pub Answers : Result WeightedGraph ReadError → Result WeightedGraph InputFault → Type 0
+Answers (Ok g) read = read ≡ Ok g
+Answers (Err (errors.Fault fault)) read = read ≡ Err fault
+Answers (Err errors.OutOfMemory) read = Unit {0}

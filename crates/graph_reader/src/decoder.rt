@@ -1,0 +1,134 @@
+ghost use Rattle.std.specs.Prelude.{◌≡◌, ◌+◌, ◌<◌, ◌≤◌, ◌↔◌, ℕ, List, [], ◌∷◌, ◌++◌, length, IsTrue, IsFalse, IfOk, Err, is_err};
+ghost use Rattle.graph_reader.specs.EdgeList.{edge_list, settles};
+ghost use Rattle.graph_reader.specs.Progress.{HasRead, Answers, is_out_of_memory, is_sized};
+
+use crate::lexer::Lexer;
+use crate::parser::Parser;
+use hg_base::{Graph, OutOfMemory, ReadError};
+use std::alloc::Global;
+use std::marker::Model;
+
+/// A reader of edge lists that come in pieces. It keeps the graph as far as it was read, and no text.
+#[derive(Drop)]
+pub struct Decoder {
+    taken: u64,
+    lexer: Lexer,
+    parser: Parser,
+}
+
+impl Model for Decoder {
+    ghost use Rattle.graph_reader.specs.Progress.{Progress};
+
+    ghost Value = { Progress };
+
+    ghost use Rattle.graph_reader.specs.DecoderFields.{progress_of, Keeps};
+
+    ghost view = { progress_of };
+
+    ghost invariant = { Keeps };
+}
+
+impl Decoder {
+    /// A decoder that has read nothing.
+    pub fn new(alloc: Global) -> Result<Decoder, OutOfMemory>
+        ensures read { IfOk result (λ d. HasRead d []) }
+        ensures memory { IfOk result (λ d. IsFalse (is_out_of_memory d)) }
+    {
+        Ok(Decoder {
+            taken: 0,
+            lexer: Lexer::Between,
+            parser: Parser::new(alloc),
+        })
+    }
+
+    /// Reads the next piece of the input. All pieces together have at most 134,217,728 bytes.
+    ///
+    /// # Errors
+    ///
+    /// There was no memory for the graph, in this call or an earlier one. Where `is_sized` was
+    /// true before the call, it fails only where an earlier call did.
+    pub fn feed(&mut self, piece: &[u8]) -> Result<(), OutOfMemory>
+        requires { self.old.taken + length piece.now ≤ 134217728 }
+        // What has been read is read on, also where memory ran out.
+        ensures read { (bytes : List ℕ) → HasRead self.old bytes → HasRead self.new (bytes ++ piece.now) }
+        ensures taken { self.new.taken ≡ self.old.taken + length piece.now }
+        ensures memory { is_err result ≡ is_out_of_memory self.new }
+        ensures stays { IsTrue (is_out_of_memory self.old) → IsTrue (is_out_of_memory self.new) }
+        ensures sized { IsTrue (is_sized self.old) → IsTrue (is_sized self.new) × (is_out_of_memory self.new ≡ is_out_of_memory self.old) }
+    {
+        for b in piece {
+            self.push(*b);
+        }
+        if self.parser.is_out_of_memory() {
+            Err(OutOfMemory)
+        } else {
+            Ok(())
+        }
+    }
+
+    /// The graph of the edge list that was fed, or its first fault. Takes no memory.
+    ///
+    /// # Errors
+    ///
+    /// The first fault of the input; or an earlier `feed` answered that memory ran out.
+    pub fn finish(self) -> Result<Graph, ReadError>
+        ensures read { (bytes : List ℕ) → HasRead self bytes → Answers result (edge_list bytes) }
+        ensures memory { IsTrue (is_out_of_memory self) ↔ (result ≡ Err ReadError.OutOfMemory) }
+    {
+        match self.lexer {
+            Lexer::Inside(at, text) => self.parser.finish_with(at, text.token(), self.taken),
+            Lexer::Between | Lexer::Comment => self.parser.finish(self.taken),
+        }
+    }
+
+    /// The number of bytes that were fed.
+    pub fn taken(&self) -> u64
+        ensures { result ≡ self.now.taken }
+    {
+        self.taken
+    }
+
+    /// Whether the memory for the graph has been taken, or none is needed: the number of edges, or a
+    /// fault before it, has been read, and a byte behind it.
+    pub fn is_sized(&self) -> bool
+        ensures value { result ≡ is_sized self.now }
+        ensures exact { (bytes : List ℕ) → HasRead self.now bytes → result ≡ settles bytes }
+    {
+        self.parser.is_settled()
+    }
+
+    // Reads one byte.
+    fn push(&mut self, b: u8)
+        requires { self.old.taken < 134217728 }
+        ensures read { (bytes : List ℕ) → HasRead self.old bytes → HasRead self.new (bytes ++ b ∷ []) }
+        ensures taken { self.new.taken ≡ self.old.taken + 1 }
+        ensures stays { IsTrue (is_out_of_memory self.old) → IsTrue (is_out_of_memory self.new) }
+        ensures sized { IsTrue (is_sized self.old) → IsTrue (is_sized self.new) × (is_out_of_memory self.new ≡ is_out_of_memory self.old) }
+    {
+        let (lexer, found) = self.lexer.after(self.taken, b);
+        self.lexer = lexer;
+        self.taken += 1;
+        if let Some(found) = found {
+            self.parser.take(found.at, found.token);
+        }
+    }
+}
+
+/// The graph of an edge list of at most 134,217,728 bytes, or its first fault.
+///
+/// # Errors
+///
+/// The first fault of the input, or there was no memory for the graph.
+pub fn read_graph(alloc: Global, bytes: &[u8]) -> Result<Graph, ReadError>
+    requires { length bytes.now ≤ 134217728 }
+    ensures { Answers result (edge_list bytes.now) }
+{
+    let mut decoder = match Decoder::new(alloc) {
+        Ok(decoder) => decoder,
+        Err(OutOfMemory) => return Err(ReadError::OutOfMemory),
+    };
+    match decoder.feed(bytes) {
+        Ok(()) => decoder.finish(),
+        Err(OutOfMemory) => Err(ReadError::OutOfMemory),
+    }
+}

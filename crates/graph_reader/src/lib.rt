@@ -1,0 +1,10 @@
+//! Edge lists, read whole or in pieces, with every fault at its place.
+#![tactic(auto)]
+
+mod decoder;
+mod lexer;
+mod parser;
+mod rules;
+mod token;
+
+pub use decoder::{Decoder, read_graph};

@@ -14,7 +14,7 @@ use Rattle.edge_order.specs.OrderFields.{order_in, IsTableOf, IsTable}
 use Rattle.edge_order.specs.Tables.{key, sorted_keys_of, ranks_of, listed_row, HasEnds}
 use Rattle.edge_order.specs.declared.order.NumberedEdge.{NumberedEdge}
 use Rattle.edge_order.specs.declared.order.Order.TheInside.{Inside}
-use Rattle.edge_order.proofs.Ranks.{rank-below, number_at-rank, number_at-below, rank-number_at}
+use Rattle.hg_base.proofs.Ranks.{rank-below, number_at-rank, number_at-below, rank-number_at}
 
 -- there is a key for each rank
 pub sorted_keys-length : (g : WeightedGraph) (keys : List (ℕ × ℕ)) → keys ≡ sorted_keys_of g → length keys ≡ length g.edges

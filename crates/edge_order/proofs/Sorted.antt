@@ -17,8 +17,8 @@ use Rattle.hg_base.specs.Graph.{WeightedGraph, weight}
 use Rattle.hg_base.specs.declared.graph.Edge.{Edge}
 use Rattle.hg_base.specs.Rank.{numbers, comes_before, rank, number_at}
 use Rattle.edge_order.specs.Tables.{key, keys_of, sorted_keys_of}
-use Rattle.edge_order.proofs.Counts.{count_by-is}
-use Rattle.edge_order.proofs.Ranks.{number_at-rank}
+use Rattle.hg_base.proofs.CountBy.{count_by-is}
+use Rattle.hg_base.proofs.Ranks.{number_at-rank}
 
 -- the order of keys: by weight, then by number
 abbrev key_cmp : ℕ × ℕ → ℕ × ℕ → Ordering

@@ -1,6 +1,6 @@
 -- Edge lists: who is joined, which edges join, and the chain of a vertex (Najman, Cousty and Perret 2013).
 -- The edges of a list have different ranks; each has two ends, and a weight and a number where a definition reads them.
-use Rattle.std.specs.Prelude.{◌≡◌, ◌==◌, ℕ, ◌<◌, Bool, not, ◌&&◌, ◌||◌, ◌⊎◌, List, [], ◌∷◌, filter, nat_lt, nat_le, Option, Some, None, if◌then◌else◌}
+use Rattle.std.specs.Prelude.{◌≡◌, ◌==◌, ℕ, zero, suc, ◌+◌, ◌<◌, Bool, not, ◌&&◌, ◌||◌, ◌⊎◌, List, [], ◌∷◌, map, filter, nat_lt, nat_le, Option, Some, None, if◌then◌else◌}
 use Rattle.std.specs.List.{range_with_len}
 
 -- an edge of an edge list
@@ -31,6 +31,11 @@ IsWalk edges x (z ∷ zs) y = ((e : ListedEdge) × (IsIn e edges × AreEnds e x 
 -- a walk leads from x to y
 abbrev pub Joined : EdgeList → ℕ → ℕ → Type 0
 Joined edges x y = (zs : List ℕ) × IsWalk edges x zs y
+
+-- both lists hold the same edges
+pub record IsSameSet (s t : EdgeList) : Type 0 where
+  pub on : (e : ListedEdge) → IsIn e s → IsIn e t
+  pub back : (e : ListedEdge) → IsIn e t → IsIn e s
 
 -- no two edges of the list have one rank
 abbrev pub AreApart : EdgeList → Type 0
@@ -92,3 +97,39 @@ first_edge (e ∷ s) = Some e
 -- the first edge of rank k or more on the chain of x
 abbrev pub next : EdgeList → ℕ → ℕ → Option ListedEdge
 next s x k = first_edge (filter (λ e. nat_le k e.rank) (chain s x))
+
+-- what comes next after two chains are merged: the edge of lower rank; where both have one edge next, it joins
+-- nothing any more, and what comes after it is next
+abbrev pub merged : EdgeList → Option ListedEdge → Option ListedEdge → Option ListedEdge
+merged s None q = q
+merged s (Some f) None = Some f
+merged s (Some f) (Some g) = if nat_lt f.rank g.rank then Some f else (if nat_lt g.rank f.rank then Some g else next s f.u (f.rank + 1))
+
+-- how many numbers below n pass the test
+abbrev pub count_below : (ℕ → Bool) → ℕ → ℕ
+count_below p zero = 0
+count_below p (suc n) = count_below p n + (if p n then 1 else 0)
+
+-- no lesser vertex is the same as x by the test
+abbrev pub is_least : (ℕ → ℕ → Bool) → ℕ → Bool
+is_least r x = count_below (r x) x == 0
+
+-- the number of components: of the vertices below n that are the least of their component
+abbrev pub components : ℕ → EdgeList → ℕ
+components n s = count_below (is_least (joined s)) n
+
+-- the edge with its ends renamed
+abbrev pub renamed_edge : (ℕ → ℕ) → ListedEdge → ListedEdge
+renamed_edge f e = record { rank = e.rank; u = f e.u; v = f e.v; weight = e.weight; number = e.number }
+
+-- the edges with the vertices renamed
+abbrev pub renamed : (ℕ → ℕ) → EdgeList → EdgeList
+renamed f s = map (renamed_edge f) s
+
+-- no two vertices below n get one name
+abbrev pub IsOneToOne : ℕ → (ℕ → ℕ) → Type 0
+IsOneToOne n f = (x y : ℕ) → x < n → y < n → f x ≡ f y → x ≡ y
+
+-- the chains of x and y share an edge of rank below k
+abbrev pub ShareBelow : EdgeList → ℕ → ℕ → ℕ → Type 0
+ShareBelow s k x y = (e : ListedEdge) × (IsIn e (chain s x) × (IsIn e (chain s y) × (e.rank < k)))

@@ -3,6 +3,9 @@ pub mod GraphFields
 pub mod Edges
 pub mod Rank
 pub mod Tree
+pub mod Saliency
+pub mod Splice
+pub mod Worked
 pub mod Text
 pub mod Fault
 pub mod Outside

@@ -52,3 +52,8 @@ pub record Store : Type 0 where
   pub room : ℕ
   pub largest : ℕ
   pub calls : CallCount
+
+-- a reader or a writer of std, and how many of its calls failed
+pub record Counted (X : Type 0) : Type 0 where
+  pub inner : X
+  pub faults : ℕ

@@ -4,6 +4,9 @@
 mod fault;
 mod gate;
 mod graph;
+pub mod laws;
+#[cfg(test)]
+mod worked;
 mod memory;
 mod outside;
 mod standard;

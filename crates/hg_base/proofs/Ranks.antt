@@ -10,8 +10,8 @@ use Rattle.std.proofs.lemmas.List.Sums.{count_by-le-length, position_or_len_is, 
 use Rattle.std.proofs.lemmas.Option.{unwrap_or-slice_get}
 use Rattle.hg_base.specs.Graph.{WeightedGraph, weight}
 use Rattle.hg_base.specs.Rank.{numbers, comes_before, rank, number_at}
-use Rattle.edge_order.proofs.Counts.{count_by-lt}
-use Rattle.edge_order.proofs.Pigeons.{misses_none}
+use Rattle.hg_base.proofs.CountBy.{count_by-lt}
+use Rattle.hg_base.proofs.Pigeons.{misses_none}
 
 -- what "before" is on weights and numbers: f of weight v comes before e of weight w
 abbrev earlier : ℕ → ℕ → ℕ → ℕ → Bool
@@ -31,7 +31,7 @@ pub get_or-numbers : (g : WeightedGraph) (e d : ℕ) → e < length g.edges → 
 get_or-numbers g e d h = get_or-range_with_len 0 (length g.edges) e d h ∙ omega arith
 
 -- an edge that comes before another has a lower rank
-rank-lt : (g : WeightedGraph) (e f : ℕ) → f < length g.edges → comes_before g e f ≡ true → rank g f < rank g e
+pub rank-lt : (g : WeightedGraph) (e f : ℕ) → f < length g.edges → comes_before g e f ≡ true → rank g f < rank g e
 rank-lt g e f h before =
     let at = get_or-numbers g f 0 h in
     let within : f < length (numbers g) = rw length-range_with_len h in

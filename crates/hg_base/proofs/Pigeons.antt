@@ -1,12 +1,11 @@
 -- A function that takes each number below n to a different number below m.
 use Rattle.std.proofs.Common.{◌≡◌, ℕ, zero, suc, ◌<◌, ◌≤◌, ◌==◌, ◌⊎◌, inl, inr, cond, refl, sym, ◌∙◌, arith}
 use Rattle.std.proofs.lemmas.Bool.Decides.{eqb_tells}
+use Rattle.hg_base.specs.Edges.{IsOneToOne}
 
+-- f takes each number below n to one below m
 abbrev pub Into : (ℕ → ℕ) → ℕ → ℕ → Type 0
 Into f n m = (i : ℕ) → i < n → f i < m
-
-abbrev pub IsOneToOne : (ℕ → ℕ) → ℕ → Type 0
-IsOneToOne f n = (i j : ℕ) → i < n → j < n → f i ≡ f j → i ≡ j
 
 -- v is no value of f below n
 abbrev pub Misses : (ℕ → ℕ) → ℕ → ℕ → Type 0
@@ -27,7 +26,7 @@ moved-into f n m v into lower i h =
     let within = into i h in
     elim (moved-cases f m v i) [ inl w ↦ omega (arith, lower i h w.0, w.1) | inr w ↦ omega (arith, w.0, w.1) ]
 
-moved-one : (f : ℕ → ℕ) (n m v : ℕ) → IsOneToOne f n → Misses f n v → IsOneToOne (moved f m v) n
+moved-one : (f : ℕ → ℕ) (n m v : ℕ) → IsOneToOne n f → Misses f n v → IsOneToOne n (moved f m v)
 moved-one f n m v one missed i j hi hj same =
     elim (moved-cases f m v i) [
       | inl a ↦ elim (moved-cases f m v j) [
@@ -41,7 +40,7 @@ moved-one f n m v one missed i j hi hj same =
     ]
 
 -- there are at least as many values as arguments
-pub pigeonhole : (n m : ℕ) (f : ℕ → ℕ) → Into f n m → IsOneToOne f n → n ≤ m
+pub pigeonhole : (n m : ℕ) (f : ℕ → ℕ) → Into f n m → IsOneToOne n f → n ≤ m
 pigeonhole zero m f into one = omega arith
 pigeonhole (suc n) zero f into one = absurd (omega (arith, into n (omega arith)))
 pigeonhole (suc n) (suc m) f into one =
@@ -52,7 +51,7 @@ pigeonhole (suc n) (suc m) f into one =
     omega (arith, fewer)
 
 -- a function from the numbers below n to themselves, one to one, misses none
-pub misses_none : (n : ℕ) (f : ℕ → ℕ) → Into f n n → IsOneToOne f n → (k : ℕ) → k < n → Misses f n k → ⊥
+pub misses_none : (n : ℕ) (f : ℕ → ℕ) → Into f n n → IsOneToOne n f → (k : ℕ) → k < n → Misses f n k → ⊥
 misses_none zero f into one k h missed = omega arith
 misses_none (suc m) f into one k h missed =
     let lower : (i : ℕ) → i < suc m → f i ≡ m → k < m = λ i hi at. let apart = missed i hi in grind arith in

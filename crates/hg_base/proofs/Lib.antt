@@ -23,3 +23,4 @@ pub mod CountBy
 pub mod Pigeons
 pub mod Ranks
 pub mod Ranked
+pub mod Lines

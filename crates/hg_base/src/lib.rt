@@ -5,6 +5,7 @@ mod fault;
 mod gate;
 mod graph;
 pub mod laws;
+mod text;
 #[cfg(test)]
 mod worked;
 mod memory;
@@ -17,3 +18,4 @@ pub use graph::{Edge, Graph, PlacedEdge, RankedEdge, Room};
 pub use memory::{MemSink, MemSource, QuietSource, TallySink};
 pub use outside::{Sink, Source, write_all};
 pub use standard::{StdSink, StdSource};
+pub use text::{push_headed_line, push_line};

@@ -1,0 +1,4 @@
+pub mod Slots
+pub mod Given
+pub mod Chains
+pub mod PartFields

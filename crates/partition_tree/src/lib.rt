@@ -1,0 +1,11 @@
+//! Binary partition trees by altitude: made from a list of edges, read node by node, and written as a report.
+#![tactic(auto)]
+
+mod list;
+mod numbering;
+mod report;
+mod tree;
+
+pub use list::Ranked;
+pub use report::write_tree;
+pub use tree::Tree;

@@ -1,44 +1,20 @@
 -- The weights of a graph's edges don't fall in order of rank.
-use Rattle.std.proofs.Common.{◌≡◌, ℕ, ◌<◌, ◌≤◌, ◌==◌, inl, inr, Bool, true, false, ◌&&◌, ◌||◌, List, length, map, get_or, nat_lt, sym, ap, ◌∙◌, subst, arith}
-use Rattle.std.proofs.lemmas.Bool.Decides.{nat_tests}
-use Rattle.std.proofs.lemmas.Bool.{cases_lt}
+use Rattle.std.proofs.Common.{◌≡◌, ℕ, ◌<◌, ◌≤◌, inl, inr, true, List, length, map, get_or, sym, ap, ◌∙◌, subst, arith}
+use Rattle.std.proofs.lemmas.Bool.{cases_lt, lt-ltb, or_left}
 use Rattle.std.proofs.lemmas.List.{get_or-map, length-map}
-use Rattle.std.proofs.lemmas.List.FromFn.{length-range_with_len, length-map-range_with_len, get_or-map-range_with_len}
+use Rattle.std.proofs.lemmas.List.FromFn.{length-map-range_with_len, get_or-map-range_with_len}
 use Rattle.std.specs.List.Sorted.{IsNonDecreasingBy}
 use Rattle.hg_base.specs.Graph.{WeightedGraph, weight}
-use Rattle.hg_base.specs.Edges.{ListedEdge}
-use Rattle.hg_base.specs.Rank.{numbers, comes_before, rank, number_at, listed, ranked}
-use Rattle.edge_order.proofs.Counts.{count_by-lt}
-use Rattle.edge_order.proofs.Ranks.{get_or-numbers, number_at-below, rank-number_at}
-use Rattle.partition_tree.specs.declared.Ranked.{Ranked}
+use Rattle.hg_base.specs.Rank.{comes_before, rank, number_at, listed, ranked}
+use Rattle.hg_base.proofs.Ranks.{number_at-below, rank-lt, rank-number_at}
+use Rattle.partition_tree.specs.declared.list.Ranked.{Ranked}
 use Rattle.higra_cli.specs.Ordered.{altitude, tree_edge, tree_edges}
-
--- f of weight v comes before e of weight w
-abbrev earlier : ℕ → ℕ → ℕ → ℕ → Bool
-earlier v f w e = nat_lt v w || ((v == w) && nat_lt f e)
-
-earlier-trans : (u d v f w e : ℕ) → earlier u d v f ≡ true → earlier v f w e ≡ true → earlier u d w e ≡ true
-earlier-trans u d v f w e a b = grind (arith, nat_tests)
-
-earlier-irrefl : (w e : ℕ) → earlier w e w e ≡ false
-earlier-irrefl w e = grind (arith, nat_tests)
-
-earlier-lighter : (v f w e : ℕ) → v < w → earlier v f w e ≡ true
-earlier-lighter v f w e h = grind (arith, nat_tests)
-
--- an edge that comes before another has a lower rank
-rank-lt : (g : WeightedGraph) (e f : ℕ) → f < length g.edges → comes_before g e f ≡ true → rank g f < rank g e
-rank-lt g e f h before =
-    let at = get_or-numbers g f 0 h in
-    let within : f < length (numbers g) = rw length-range_with_len h in
-    count_by-lt (comes_before g f) (comes_before g e) (λ x p. earlier-trans (weight g x) x (weight g f) f (weight g e) e p before) (numbers g) f 0 within
-    (rw at (earlier-irrefl (weight g f) f)) (rw at before)
 
 -- a lower rank has no greater weight
 pub weight-rises : (g : WeightedGraph) (i j : ℕ) → i ≤ j → j < length g.edges → weight g (number_at g i) ≤ weight g (number_at g j)
 weight-rises g i j up h = elim (cases_lt (weight g (number_at g j)) (weight g (number_at g i))) [
   | inl lighter ↦
-      let before : comes_before g (number_at g i) (number_at g j) ≡ true = earlier-lighter (weight g (number_at g j)) (number_at g j) (weight g (number_at g i)) (number_at g i) lighter in
+      let before : comes_before g (number_at g i) (number_at g j) ≡ true = or_left _ _ (lt-ltb (weight g (number_at g j)) (weight g (number_at g i)) lighter) in
       let less = rank-lt g (number_at g i) (number_at g j) (number_at-below g j (omega arith)) before in
       absurd (omega (arith, less, rank-number_at g i (omega arith), rank-number_at g j h))
   | inr rises ↦ rises

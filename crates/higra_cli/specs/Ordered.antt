@@ -3,7 +3,7 @@ use Rattle.std.specs.Prelude.{ℕ, List, map}
 use Rattle.hg_base.specs.Graph.{WeightedGraph}
 use Rattle.hg_base.specs.Edges.{ListedEdge}
 use Rattle.hg_base.specs.Rank.{ranked}
-use Rattle.partition_tree.specs.declared.Ranked.{Ranked}
+use Rattle.partition_tree.specs.declared.list.Ranked.{Ranked}
 
 -- an edge of the list
 abbrev pub tree_edge : ListedEdge → Ranked

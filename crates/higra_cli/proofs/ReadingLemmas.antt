@@ -6,7 +6,10 @@ use Rattle.std.specs.Io.KnownBytes.{Consumes, IsAtEnd}
 use Rattle.hg_base.specs.Graph.{WeightedGraph}
 use Rattle.hg_base.specs.declared.fault.InputFault.{InputFault}
 use Rattle.graph_reader.specs.EdgeList.{edge_list}
-use Rattle.higra_cli.specs.Reading.{answer_of, status_for, too_long, IsFor, GaveAtMost, GaveGraph, GaveTooMuch}
+use Rattle.graph_reader.specs.Progress.{Progress, HasRead}
+use Rattle.higra_cli.specs.Feeding.{HasFedAll, StopsFeeding, EndsDecoding}
+use Rattle.higra_cli.specs.Reading.{Told, answer_of, status_for, too_long, EndsReading, GaveAtMost, GaveGraph, GaveTooMuch, IsFor, StopsReading}
+use Rattle.higra_cli.specs.declared.input.Input.{Input}
 use Rattle.higra_cli.specs.declared.ending.Status.{Status}
 use Rattle.higra_cli.specs.declared.ending.Status.TheVariants as statuses
 
@@ -61,5 +64,29 @@ pub most_from_too_much : (old new : Option (List ℕ)) (bytes : List ℕ) → Ga
 most_from_too_much old new bytes much = (bytes, (much.gave, omega (arith, much.long)))
 
 -- the status for an edge list
-pub IsFor-graph : (old new : Option (List ℕ)) (graph : WeightedGraph) (bytes : List ℕ) → GaveGraph old new graph bytes → IsFor old statuses.Success
-IsFor-graph old new graph bytes read = IsFor-read old new bytes (Ok graph) read.gave read.ended read.short read.spelled
+pub IsFor-graph : (old new : Option (List ℕ)) (graph : WeightedGraph) → (bytes : List ℕ) × GaveGraph old new graph bytes → IsFor old statuses.Success
+IsFor-graph old new graph (bytes, read) = IsFor-read old new bytes (Ok graph) read.gave read.ended read.short read.spelled
+
+-- what ended the feeding ended the reading
+pub StopsReading-fed : (old new : Told) (status : Status) → StopsFeeding old new status → StopsReading old new status
+StopsReading-fed old new (statuses.Input fault) stopped =
+    (stopped.1.0, subst (λ (f : InputFault). IsFor old.bytes (statuses.Input f)) (sym stopped.0) (IsFor-long old.bytes new.bytes stopped.1.1.0 stopped.1.1.1))
+StopsReading-fed old new statuses.ReadFailed stopped = stopped
+StopsReading-fed old new statuses.OutOfMemory stopped = tt
+StopsReading-fed old new statuses.Success stopped = absurd stopped
+StopsReading-fed old new statuses.Usage stopped = absurd stopped
+StopsReading-fed old new statuses.WriteFailed stopped = absurd stopped
+
+-- what was decoded of all that was fed ended the reading
+pub EndsReading-decoded : (old new : Told) (decoder : Progress) (result : Result Input Status) → HasFedAll old new decoder
+    → ((bytes : List ℕ) → HasRead decoder bytes → EndsDecoding (edge_list bytes) result) → EndsReading old new result
+EndsReading-decoded old new decoder result fed decoded = by_result result (decoded fed.0 fed.1.0.read)
+  where
+    by_result : (r : Result Input Status) → EndsDecoding (edge_list fed.0) r → EndsReading old new r
+    by_result (Ok input) read = (fed.1.0.quiet, (fed.0, record { gave = fed.1.0.gave; ended = fed.1.1; short = fed.1.0.short; spelled = read }))
+    by_result (Err (statuses.Input fault)) read = (fed.1.0.quiet, IsFor-read old.bytes new.bytes fed.0 (Err fault) fed.1.0.gave fed.1.1 fed.1.0.short read)
+    by_result (Err statuses.OutOfMemory) read = tt
+    by_result (Err statuses.Success) read = absurd read
+    by_result (Err statuses.Usage) read = absurd read
+    by_result (Err statuses.ReadFailed) read = absurd read
+    by_result (Err statuses.WriteFailed) read = absurd read

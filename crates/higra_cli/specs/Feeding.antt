@@ -1,9 +1,12 @@
 -- What feeding a source to a decoder comes to.
-use Rattle.std.specs.Prelude.{◌≡◌, ℕ, ◌≤◌, List, length, Option}
+use Rattle.std.specs.Prelude.{◌≡◌, ℕ, ◌≤◌, List, length, Option, Result, Ok, Err}
 use Rattle.std.specs.Io.KnownBytes.{Consumes, IsAtEnd}
+use Rattle.hg_base.specs.Graph.{WeightedGraph}
 use Rattle.hg_base.specs.Outside.{Rose}
+use Rattle.hg_base.specs.declared.fault.InputFault.{InputFault}
 use Rattle.graph_reader.specs.Progress.{Progress, HasRead}
-use Rattle.higra_cli.specs.Reading.{Told, too_long, GaveTooMuch}
+use Rattle.higra_cli.specs.Reading.{Told, graph_of, too_long, GaveTooMuch}
+use Rattle.higra_cli.specs.declared.input.Input.{Input}
 use Rattle.higra_cli.specs.declared.ending.Status.{Status}
 use Rattle.higra_cli.specs.declared.ending.Status.TheVariants as statuses
 
@@ -26,3 +29,13 @@ StopsFeeding old new statuses.OutOfMemory = Unit {0}
 StopsFeeding old new statuses.Success = ⊥
 StopsFeeding old new statuses.Usage = ⊥
 StopsFeeding old new statuses.WriteFailed = ⊥
+
+-- what was read as an edge list gave an input, or ended the run
+abbrev pub EndsDecoding : Result WeightedGraph InputFault → Result Input Status → Type 0
+EndsDecoding read (Ok input) = read ≡ Ok (graph_of input)
+EndsDecoding read (Err (statuses.Input fault)) = read ≡ Err fault
+EndsDecoding read (Err statuses.OutOfMemory) = Unit {0}
+EndsDecoding read (Err statuses.Success) = ⊥
+EndsDecoding read (Err statuses.Usage) = ⊥
+EndsDecoding read (Err statuses.ReadFailed) = ⊥
+EndsDecoding read (Err statuses.WriteFailed) = ⊥

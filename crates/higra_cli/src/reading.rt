@@ -1,9 +1,10 @@
 // Reading a source to its end.
-ghost use Rattle.std.specs.Prelude.{◌≡◌, ◌≤◌, ◌<◌, [], length, take, IfOk, MatchResult};
+ghost use Rattle.std.specs.Prelude.{◌≤◌, ◌<◌, ℕ, List, [], length, IfOk, MatchResult};
 ghost use Rattle.std.specs.Io.KnownBytes.{ReadConsumes};
 ghost use Rattle.hg_base.specs.Outside.{HasCause};
+ghost use Rattle.graph_reader.specs.EdgeList.{edge_list};
 ghost use Rattle.graph_reader.specs.Progress.{HasRead};
-ghost use Rattle.higra_cli.specs.Feeding.{HasFedAll, StopsFeeding};
+ghost use Rattle.higra_cli.specs.Feeding.{EndsDecoding, HasFedAll, StopsFeeding};
 ghost use Rattle.higra_cli.specs.Reading.{EndsReading, GaveAtMost, told};
 
 use std::alloc::Global;
@@ -28,9 +29,28 @@ pub(crate) fn read_input<S: Source>(alloc: Global, source: &mut S) -> Result<Inp
     ensures ends { EndsReading (told (S.left source.old) (S.faults source.old)) (told (S.left source.new) (S.faults source.new)) result }
     ensures most { GaveAtMost 134217729 (S.left source.old) (S.left source.new) }
 {
-    let mut decoder = Decoder::new(alloc)?;
     let mut buffer = vec![in alloc; 0u8; PIECE]?;
-    feed_all(source, &mut decoder, &mut buffer)?;
+    let decoder = Decoder::new(alloc)?;
+    read_through(source, decoder, &mut buffer)
+}
+
+// Reads the source through to its end.
+fn read_through<S: Source>(source: &mut S, mut decoder: Decoder, buffer: &mut [u8]) -> Result<Input, Status>
+    requires fresh { HasRead decoder [] }
+    requires room { 0 < length buffer.old }
+    ensures ends { EndsReading (told (S.left source.old) (S.faults source.old)) (told (S.left source.new) (S.faults source.new)) result }
+    ensures most { GaveAtMost 134217729 (S.left source.old) (S.left source.new) }
+{
+    match feed_all(source, &mut decoder, buffer) {
+        Ok(()) => finish(decoder),
+        Err(status) => Err(status),
+    }
+}
+
+// What was fed, as an input.
+fn finish(decoder: Decoder) -> Result<Input, Status>
+    ensures { (bytes : List ℕ) → HasRead decoder bytes → EndsDecoding (edge_list bytes) result }
+{
     match decoder.finish() {
         Ok(graph) => Ok(Input::Edges(graph)),
         Err(ReadError::Fault(fault)) => Err(Status::Input(fault)),

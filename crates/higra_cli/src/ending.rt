@@ -2,12 +2,10 @@
 ghost use Rattle.std.specs.Prelude.{◌≡◌};
 ghost use Rattle.higra_cli.specs.Ending.{code_of};
 
-use std::alloc::AllocError;
-
-use hg_base::{InputFault, OutOfMemory};
-
 use super::request::WordsFault;
 use super::writing::RunFault;
+use hg_base::{InputFault, OutOfMemory};
+use std::alloc::AllocError;
 
 /// How a run ended.
 #[derive(Debug, Drop)]

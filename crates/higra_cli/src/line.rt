@@ -2,11 +2,9 @@
 ghost use Rattle.std.specs.Prelude.{◌≡◌, ◌+◌, ◌≤◌, [], ◌∷◌, ◌++◌, length, decimal, codes};
 ghost use Rattle.higra_cli.specs.Ending.{fault_line, input_words, name_of, said};
 
-use std::marker::Model;
-
-use hg_base::{FaultKind, InputFault};
-
 use super::ending::Status;
+use hg_base::{FaultKind, InputFault};
+use std::marker::Model;
 
 // No fault line is longer.
 const ROOM: usize = 96;

@@ -7,13 +7,11 @@ ghost use Rattle.graph_reader.specs.Progress.{HasRead};
 ghost use Rattle.higra_cli.specs.Feeding.{EndsDecoding, HasFedAll, StopsFeeding};
 ghost use Rattle.higra_cli.specs.Reading.{EndsReading, GaveAtMost, told};
 
-use std::alloc::Global;
-
-use graph_reader::Decoder;
-use hg_base::{Failed, FaultKind, InputFault, ReadError, Source};
-
 use super::ending::Status;
 use super::input::Input;
+use graph_reader::Decoder;
+use hg_base::{Failed, FaultKind, InputFault, ReadError, Source};
+use std::alloc::Global;
 
 // The most bytes of an input.
 const MOST_BYTES: u64 = 134_217_728;
@@ -35,7 +33,11 @@ pub(crate) fn read_input<S: Source>(alloc: Global, source: &mut S) -> Result<Inp
 }
 
 // Reads the source through to its end.
-fn read_through<S: Source>(source: &mut S, mut decoder: Decoder, buffer: &mut [u8]) -> Result<Input, Status>
+fn read_through<S: Source>(
+    source: &mut S,
+    mut decoder: Decoder,
+    buffer: &mut [u8],
+) -> Result<Input, Status>
     requires fresh { HasRead decoder [] }
     requires room { 0 < length buffer.old }
     ensures ends { EndsReading (told (S.left source.old) (S.faults source.old)) (told (S.left source.new) (S.faults source.new)) result }
@@ -59,7 +61,11 @@ fn finish(decoder: Decoder) -> Result<Input, Status>
 }
 
 // Feeds the source to the decoder, in the pieces that it gives.
-fn feed_all<S: Source>(source: &mut S, decoder: &mut Decoder, buffer: &mut [u8]) -> Result<(), Status>
+fn feed_all<S: Source>(
+    source: &mut S,
+    decoder: &mut Decoder,
+    buffer: &mut [u8],
+) -> Result<(), Status>
     requires fresh { HasRead decoder.old [] }
     requires room { 0 < length buffer.old }
     ensures ends { MatchResult result (λ _. HasFedAll (told (S.left source.old) (S.faults source.old)) (told (S.left source.new) (S.faults source.new)) decoder.new) (StopsFeeding (told (S.left source.old) (S.faults source.old)) (told (S.left source.new) (S.faults source.new))) }

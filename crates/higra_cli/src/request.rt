@@ -2,9 +2,8 @@
 ghost use Rattle.std.specs.Prelude.{◌≡◌, IfOk, IfErr};
 ghost use Rattle.higra_cli.specs.Request.{plain_request, report_named, request_by};
 
-use std::alloc::Global;
-
 use super::words::Words;
+use std::alloc::Global;
 
 /// What is written about the input.
 #[derive(Clone, Copy, Debug, PartialEq, Eq)]

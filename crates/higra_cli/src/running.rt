@@ -7,17 +7,15 @@ ghost use Rattle.higra_cli.specs.Reading.{GaveAtMost, GaveEdgeList, IsFor, told}
 ghost use Rattle.higra_cli.specs.Request.{request_by};
 ghost use Rattle.higra_cli.specs.Running.{AppendsSome, EndsWork, HasRequest, IsAnswerTo, StoodStill};
 
-use std::alloc::Global;
-use std::thread::Threads;
-
-use hg_base::{Gate, Sink, Source, write_all};
-
 use super::ending::Status;
 use super::line::FaultLine;
 use super::reading::read_input;
 use super::request::request_of;
 use super::words::Words;
 use super::writing::report;
+use hg_base::{Gate, Sink, Source, write_all};
+use std::alloc::Global;
+use std::thread::Threads;
 
 /// Runs the program: reads the words, then the source to its end, makes the whole report in memory
 /// and writes it to `out`. Where the run is refused, `err` gets the fault line of the status.

@@ -30,20 +30,68 @@ fn sink_of(alloc: Global, room: usize, fails: u64) -> Result<MemSink, Fail> {
 fn a_report_or_a_fault_line(rt: HostRuntime) -> Result<(), Fail> {
     // the input, the code, and what is written: the report for code 0, or the fault line
     let rows = [
-        ("graph 3 2\n0 1 5\n1 2 3\n", 0, "tree 5 3\n0 4 0\n1 3 0\n2 3 0\n3 4 3\n4 4 5\n"),
+        (
+            "graph 3 2\n0 1 5\n1 2 3\n",
+            0,
+            "tree 5 3\n0 4 0\n1 3 0\n2 3 0\n3 4 3\n4 4 5\n",
+        ),
         ("graph 1 0\n", 0, "tree 1 1\n0 0 0\n"),
-        ("graph 3 3\n0 1 1\n1 2 1\n0 2 1\n", 0, "tree 5 3\n0 3 0\n1 3 0\n2 4 0\n3 4 1\n4 4 1\n"),
-        ("graph 3 1\n0 1 4\n", 0, "tree 4 3\n0 3 0\n1 3 0\n2 2 0\n3 3 4\n"),
+        (
+            "graph 3 3\n0 1 1\n1 2 1\n0 2 1\n",
+            0,
+            "tree 5 3\n0 3 0\n1 3 0\n2 4 0\n3 4 1\n4 4 1\n",
+        ),
+        (
+            "graph 3 1\n0 1 4\n",
+            0,
+            "tree 4 3\n0 3 0\n1 3 0\n2 2 0\n3 3 4\n",
+        ),
         ("graph 2 0\n", 0, "tree 2 2\n0 0 0\n1 1 0\n"),
-        ("graph 2 1\n0 1 4294967295\n", 0, "tree 3 2\n0 2 0\n1 2 0\n2 2 4294967295\n"),
-        ("# roads\ngraph 2 1\r\n0 1 7 # north\r\n", 0, "tree 3 2\n0 2 0\n1 2 0\n2 2 7\n"),
-        ("graph 3 2\n0 1 5\n1 2", 3, "higra: input 4 Truncated at 19 value 0\n"),
-        ("graph 3 2\n0 1 5\n1 2 3 7\n", 3, "higra: input 5 Trailing at 22 value 0\n"),
-        ("graph 2 1\n0 0 3\n", 3, "higra: input 7 Loop at 12 value 0\n"),
-        ("graph 2 1\n0 2 3\n", 3, "higra: input 6 OutOfRange at 12 value 2\n"),
-        ("graph 1048577 0\n", 3, "higra: input 3 TooLarge at 6 value 1048577\n"),
-        ("graph 2 1\n0 1 4294967296\n", 3, "higra: input 3 TooLarge at 14 value 4294967296\n"),
-        ("graph 2 1\n0 1 12345678901\n", 3, "higra: input 2 BadNumber at 14 value 0\n"),
+        (
+            "graph 2 1\n0 1 4294967295\n",
+            0,
+            "tree 3 2\n0 2 0\n1 2 0\n2 2 4294967295\n",
+        ),
+        (
+            "# roads\ngraph 2 1\r\n0 1 7 # north\r\n",
+            0,
+            "tree 3 2\n0 2 0\n1 2 0\n2 2 7\n",
+        ),
+        (
+            "graph 3 2\n0 1 5\n1 2",
+            3,
+            "higra: input 4 Truncated at 19 value 0\n",
+        ),
+        (
+            "graph 3 2\n0 1 5\n1 2 3 7\n",
+            3,
+            "higra: input 5 Trailing at 22 value 0\n",
+        ),
+        (
+            "graph 2 1\n0 0 3\n",
+            3,
+            "higra: input 7 Loop at 12 value 0\n",
+        ),
+        (
+            "graph 2 1\n0 2 3\n",
+            3,
+            "higra: input 6 OutOfRange at 12 value 2\n",
+        ),
+        (
+            "graph 1048577 0\n",
+            3,
+            "higra: input 3 TooLarge at 6 value 1048577\n",
+        ),
+        (
+            "graph 2 1\n0 1 4294967296\n",
+            3,
+            "higra: input 3 TooLarge at 14 value 4294967296\n",
+        ),
+        (
+            "graph 2 1\n0 1 12345678901\n",
+            3,
+            "higra: input 2 BadNumber at 14 value 0\n",
+        ),
         ("grap 3 0\n", 3, "higra: input 1 UnknownForm at 0 value 0\n"),
         ("", 3, "higra: input 1 UnknownForm at 0 value 0\n"),
         ("graph 3 x\n", 3, "higra: input 2 BadNumber at 8 value 0\n"),
@@ -54,7 +102,15 @@ fn a_report_or_a_fault_line(rt: HostRuntime) -> Result<(), Fail> {
         let mut source = source_of(rt.alloc(), input, 0)?;
         let mut out = sink_of(rt.alloc(), 100, 0)?;
         let mut err = sink_of(rt.alloc(), 100, 0)?;
-        let status = run(&rt, rt.alloc(), &words, &mut source, &mut out, &mut err, &OpenGate);
+        let status = run(
+            &rt,
+            rt.alloc(),
+            &words,
+            &mut source,
+            &mut out,
+            &mut err,
+            &OpenGate,
+        );
         assert_eq!(rt; status.code(), code, "{input}");
         let (told, silent) = if code == 0 { (out, err) } else { (err, out) };
         assert_eq!(rt; told.taken(), written.as_bytes(), "{input}");
@@ -72,7 +128,15 @@ fn words_that_ask_for_nothing(rt: HostRuntime) -> Result<(), Fail> {
         let mut source = source_of(rt.alloc(), "graph 1 0\n", 0)?;
         let mut out = sink_of(rt.alloc(), 100, 0)?;
         let mut err = sink_of(rt.alloc(), 100, 0)?;
-        let status = run(&rt, rt.alloc(), &words, &mut source, &mut out, &mut err, &OpenGate);
+        let status = run(
+            &rt,
+            rt.alloc(),
+            &words,
+            &mut source,
+            &mut out,
+            &mut err,
+            &OpenGate,
+        );
         assert_eq!(rt; status.code(), 2);
         assert_eq!(rt; out.taken(), b"".as_slice());
         assert_eq!(rt; err.taken(), b"higra: usage\n".as_slice());
@@ -100,7 +164,15 @@ fn an_outside_that_fails(rt: HostRuntime) -> Result<(), Fail> {
         let mut source = source_of(rt.alloc(), input, read)?;
         let mut out = sink_of(rt.alloc(), 100, write)?;
         let mut err = sink_of(rt.alloc(), room, 0)?;
-        let status = run(&rt, rt.alloc(), &words, &mut source, &mut out, &mut err, &OpenGate);
+        let status = run(
+            &rt,
+            rt.alloc(),
+            &words,
+            &mut source,
+            &mut out,
+            &mut err,
+            &OpenGate,
+        );
         assert_eq!(rt; status.code(), code, "{input} {read} {write}");
         assert_eq!(rt; out.taken(), report.as_bytes(), "{input} {read} {write}");
         assert_eq!(rt; err.taken(), line.as_bytes(), "{input} {read} {write}");
@@ -136,16 +208,36 @@ impl Source for Blanks {
 fn an_input_that_is_too_long(rt: HostRuntime) -> Result<(), Fail> {
     // the spaces that there are, the fault line, and the spaces that aren't taken
     let rows = [
-        (134_217_728, "higra: input 1 UnknownForm at 134217728 value 0\n", 0),
-        (134_217_729, "higra: input 10 TooLong at 134217728 value 134217729\n", 0),
-        (134_217_740, "higra: input 10 TooLong at 134217728 value 134217729\n", 11),
+        (
+            134_217_728,
+            "higra: input 1 UnknownForm at 134217728 value 0\n",
+            0,
+        ),
+        (
+            134_217_729,
+            "higra: input 10 TooLong at 134217728 value 134217729\n",
+            0,
+        ),
+        (
+            134_217_740,
+            "higra: input 10 TooLong at 134217728 value 134217729\n",
+            11,
+        ),
     ];
     let words = words_of(rt.alloc(), &["tree"])?;
     for (given, line, left) in rows {
         let mut source = Blanks { left: given };
         let mut out = sink_of(rt.alloc(), 100, 0)?;
         let mut err = sink_of(rt.alloc(), 100, 0)?;
-        let status = run(&rt, rt.alloc(), &words, &mut source, &mut out, &mut err, &OpenGate);
+        let status = run(
+            &rt,
+            rt.alloc(),
+            &words,
+            &mut source,
+            &mut out,
+            &mut err,
+            &OpenGate,
+        );
         assert_eq!(rt; status.code(), 3);
         assert_eq!(rt; err.taken(), line.as_bytes());
         assert_eq!(rt; source.left, left);

@@ -1,9 +1,8 @@
 ghost use Rattle.std.specs.Prelude.{◌≡◌, ◌<◌, [], ◌∷◌, ◌++◌, length, OnOk, OnErr, slice_get, Some};
 
+use hg_base::OutOfMemory;
 use std::alloc::Global;
 use std::marker::Model;
-
-use hg_base::OutOfMemory;
 
 /// The words of a command line, after the program's name.
 #[derive(Drop)]

@@ -6,15 +6,13 @@ ghost use Rattle.partition_tree.specs.Ranked.{JoinsTwo};
 ghost use Rattle.higra_cli.specs.Ordered.{altitude, tree_edges};
 ghost use Rattle.higra_cli.specs.Running.{CanReport};
 
-use std::alloc::{AllocError, Global};
-use std::thread::Threads;
-
+use super::input::Input;
+use super::request::{Report, Request};
 use edge_order::Order;
 use hg_base::{Gate, Graph, InputFault, OutOfMemory, RankedEdge};
 use partition_tree::{Ranked, Tree, write_tree};
-
-use super::input::Input;
-use super::request::{Report, Request};
+use std::alloc::{AllocError, Global};
+use std::thread::Threads;
 
 /// Why no report was made.
 #[derive(Clone, Copy, Debug, PartialEq, Eq)]

@@ -1,7 +1,6 @@
 pub mod Link
 pub mod Members
 pub mod Walks
-pub mod Lines
 pub mod OutsideLemmas
 pub mod Sets
 pub mod Fronts
@@ -25,3 +24,4 @@ pub mod Pigeons
 pub mod Ranks
 pub mod Ranked
 pub mod LawForms
+pub mod Lines

@@ -17,7 +17,7 @@ mod worked;
 pub use fault::{Failed, FaultKind, InputFault, OutOfMemory, ReadError};
 pub use gate::{Gate, GateEvent, OpenGate};
 pub use graph::{Edge, Graph, PlacedEdge, RankedEdge, Room};
-pub use text::{push_headed_line, push_line};
 pub use memory::{MemSink, MemSource, QuietSource, TallySink};
 pub use outside::{Sink, Source, write_all};
 pub use standard::{StdSink, StdSource};
+pub use text::{push_headed_line, push_line};

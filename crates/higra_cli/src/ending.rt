@@ -1,0 +1,91 @@
+// How a run ends.
+ghost use Rattle.std.specs.Prelude.{◌≡◌};
+ghost use Rattle.higra_cli.specs.Ending.{code_of};
+
+use super::request::WordsFault;
+use super::writing::RunFault;
+use hg_base::{InputFault, OutOfMemory};
+use std::alloc::AllocError;
+
+/// How a run ended.
+#[derive(Debug, Drop)]
+pub enum Status {
+    /// The report was written.
+    Success,
+    /// The words ask for nothing.
+    Usage,
+    /// The input has this fault.
+    Input(InputFault),
+    /// A read of the source failed.
+    ReadFailed,
+    /// A write of the report failed.
+    WriteFailed,
+    /// There was no memory left.
+    OutOfMemory,
+}
+
+impl Status {
+    /// The code with which the program ends.
+    pub fn code(&self) -> u8
+        ensures { result ≡ code_of self.now }
+    {
+        match self {
+            Status::Success => 0,
+            Status::Usage => 2,
+            Status::Input(_) => 3,
+            Status::ReadFailed => 4,
+            Status::WriteFailed => 5,
+            Status::OutOfMemory => 6,
+        }
+    }
+}
+
+impl From<AllocError> for Status {
+    ghost use Rattle.std.specs.Prelude.{◌≡◌};
+    ghost use Rattle.higra_cli.specs.declared.ending.Status.TheVariants as statuses;
+
+    ghost from_gives = { λ _ status. status ≡ statuses.OutOfMemory };
+
+    fn from(_error: AllocError) -> Status {
+        Status::OutOfMemory
+    }
+}
+
+impl From<OutOfMemory> for Status {
+    ghost use Rattle.std.specs.Prelude.{◌≡◌};
+    ghost use Rattle.higra_cli.specs.declared.ending.Status.TheVariants as statuses;
+
+    ghost from_gives = { λ _ status. status ≡ statuses.OutOfMemory };
+
+    fn from(_error: OutOfMemory) -> Status {
+        Status::OutOfMemory
+    }
+}
+
+impl From<WordsFault> for Status {
+    ghost use Rattle.std.specs.Prelude.{◌≡◌};
+    ghost use Rattle.higra_cli.specs.Ending.{status_of_words};
+
+    ghost from_gives = { λ fault status. status ≡ status_of_words fault };
+
+    fn from(fault: WordsFault) -> Status {
+        match fault {
+            WordsFault::Usage => Status::Usage,
+            WordsFault::OutOfMemory => Status::OutOfMemory,
+        }
+    }
+}
+
+impl From<RunFault> for Status {
+    ghost use Rattle.std.specs.Prelude.{◌≡◌};
+    ghost use Rattle.higra_cli.specs.Ending.{status_of_fault};
+
+    ghost from_gives = { λ fault status. status ≡ status_of_fault fault };
+
+    fn from(fault: RunFault) -> Status {
+        match fault {
+            RunFault::Input(fault) => Status::Input(fault),
+            RunFault::OutOfMemory => Status::OutOfMemory,
+        }
+    }
+}

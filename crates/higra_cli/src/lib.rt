@@ -1,0 +1,22 @@
+//! The program's words, what they ask for, and a whole run: from words and a source to a report and a status.
+#![tactic(auto)]
+
+mod ending;
+mod input;
+mod line;
+mod reading;
+mod request;
+mod running;
+mod words;
+mod writing;
+
+pub use ending::Status;
+pub use input::Input;
+pub use line::FaultLine;
+pub use request::{Form, Made, Report, Request, WordsFault, request_of};
+pub use running::run;
+pub use words::Words;
+pub use writing::{RunFault, report};
+
+#[cfg(test)]
+mod tests;

@@ -5,12 +5,10 @@ mod fault;
 mod gate;
 mod graph;
 pub mod laws;
-mod text;
-#[cfg(test)]
-mod worked;
 mod memory;
 mod outside;
 mod standard;
+mod text;
 #[cfg(test)]
 mod worked;
 

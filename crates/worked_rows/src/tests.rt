@@ -1,5 +1,9 @@
 use crate::tree_report;
+use hg_base::{MemSink, OpenGate, QuietSource, TallySink};
+use higra_cli::{Words, run};
+use std::alloc::{AllocError, Global};
 use std::test::Fail;
+use std::thread::Threads;
 
 /// The inputs whose trees were worked out by hand, and the reports.
 const WORKED: [(&str, &str); 8] = [
@@ -51,6 +55,73 @@ fn other_texts(rt: HostRuntime) -> Result<(), Fail> {
         "graph 2 1\n0 2 3\n",
     ] {
         assert!(rt; tree_report(rt.alloc(), input)?.is_none(), "of {input:?}");
+    }
+    Ok(())
+}
+
+/// What the program writes for the word `tree` and this input, and the code with which it ends.
+fn program_report(
+    rt: &(impl Threads + Sync),
+    alloc: Global,
+    input: &str,
+) -> Result<(MemSink, u8), Fail> {
+    let mut words = Words::new(alloc);
+    words.push("tree")?;
+    let mut source = QuietSource::new(Vec::from_slice(alloc, input.as_bytes())?);
+    let mut out = MemSink::with_room(alloc, 4096, 4096, Vec::new(alloc))?;
+    let mut err = TallySink::new();
+    let status = run(
+        rt,
+        alloc,
+        &words,
+        &mut source,
+        &mut out,
+        &mut err,
+        &OpenGate,
+    );
+    Ok((out, status.code()))
+}
+
+#[test]
+fn the_program_writes_the_worked_trees(rt: HostRuntime) -> Result<(), Fail> {
+    for (input, want) in WORKED {
+        let (out, code) = program_report(&rt, rt.alloc(), input)?;
+        assert_eq!(rt; code, 0, "of {input:?}");
+        assert_eq!(rt; out.taken(), want.as_bytes(), "of {input:?}");
+    }
+    Ok(())
+}
+
+/// The next number of a generator, which is good enough to mix small graphs.
+fn next(state: u32) -> u32 {
+    state.wrapping_mul(1_664_525).wrapping_add(1_013_904_223)
+}
+
+/// A graph of 2 to 7 vertices and up to 9 edges of small weights, so that many weights are equal.
+fn mixed_graph(alloc: Global, seed: u32) -> Result<String, AllocError> {
+    let n = 2 + seed % 6;
+    let m = seed % 10;
+    let mut text = format!(in alloc; "graph {n} {m}\n")?;
+    let mut state = next(seed);
+    for _ in 0..m {
+        let u = (state >> 8) % n;
+        let apart = 1 + (state >> 16) % (n - 1);
+        let v = (u + apart) % n;
+        let weight = (state >> 24) % 4;
+        writeln!(text, "{u} {v} {weight}")?;
+        state = next(state);
+    }
+    Ok(text)
+}
+
+#[test]
+fn the_program_and_the_definitions_agree(rt: HostRuntime) -> Result<(), Fail> {
+    for seed in 0..60 {
+        let input = mixed_graph(rt.alloc(), seed)?;
+        let want = tree_report(rt.alloc(), input.as_str())?.expect(&rt, "a well-formed input");
+        let (out, code) = program_report(&rt, rt.alloc(), input.as_str())?;
+        assert_eq!(rt; code, 0, "of {input:?}");
+        assert_eq!(rt; out.taken(), want.as_bytes(), "of {input:?}");
     }
     Ok(())
 }

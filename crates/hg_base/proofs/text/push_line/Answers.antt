@@ -1,5 +1,5 @@
 use Rattle.std.proofs.Common.{◌≡◌, ◌<◌, length, arith}
-use Rattle.hg_base.proofs.Lines.{first_number, later_number, line_end}
+use Rattle.hg_base.proofs.Lines.{first_number, later_number}
 use Rattle.hg_base.proofs.text.push_line.Goals as goal
 use Rattle.hg_base.proofs.text.push_line.Goals.{then-place-gt0+in_ok-push, else-place-gt0}
 

@@ -1,4 +1,4 @@
-ghost use Rattle.std.specs.Prelude.{◌≡◌, ℕ, ◌+◌, ◌^◌, ◌<◌, ◌≤◌, length, vec_len, replicate, None, slice_index_or, IfSome, IfOk, OnSome, IfNone, IsTrue, slice_get, true};
+ghost use Rattle.std.specs.Prelude.{◌≡◌, ◌+◌, ◌^◌, ◌<◌, ◌≤◌, length, replicate, None, slice_index_or, IfSome, IfOk, OnSome, IfNone, slice_get, true};
 ghost use Rattle.std.specs.Option.{ForSome};
 ghost use Rattle.border_climb.specs.Slots.{is_used, free_numbers, reached, slot_rank, above_slot, met_number, KeepsUsed, SameNumbers, IsMet};
 ghost use Rattle.border_climb.specs.Given.{joined_by};

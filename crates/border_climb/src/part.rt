@@ -1,6 +1,5 @@
-ghost use Rattle.std.specs.Prelude.{◌≡◌, ◌≢◌, ℕ, ◌+◌, ◌-◌, ◌^◌, ◌<◌, ◌≤◌, min, length, IfSome, IfOk, true, slice_get};
+ghost use Rattle.std.specs.Prelude.{◌≡◌, ◌≢◌, ◌+◌, ◌-◌, ◌^◌, ◌<◌, ◌≤◌, min, IfSome, IfOk};
 ghost use Rattle.border_climb.specs.Chains.{IsCovered, IsUsed, above_place, above_cell, rank_of, roots, unjoined, KeepsPlaces};
-ghost use Rattle.border_climb.specs.Slots.{is_used};
 ghost use Rattle.border_climb.specs.Given.{joined_by};
 
 use crate::given::Given;

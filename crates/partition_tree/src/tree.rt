@@ -1,4 +1,4 @@
-ghost use Rattle.std.specs.Prelude.{◌≡◌, ◌≢◌, ℕ, ◌+◌, ◌-◌, ◌<◌, ◌≤◌, length, slice_get, Some, IfOk};
+ghost use Rattle.std.specs.Prelude.{◌≡◌, ◌≢◌, ◌+◌, ◌-◌, ◌<◌, ◌≤◌, slice_get, Some};
 ghost use Rattle.hg_base.specs.Tree.{parent, altitude};
 ghost use Rattle.partition_tree.specs.Forest.{nodes, roots, lists_of, IsForest};
 

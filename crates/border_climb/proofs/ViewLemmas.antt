@@ -1,8 +1,7 @@
 -- What contracts see of a part's fields.
-use Rattle.std.proofs.Common.{◌≡◌, ℕ, zero, suc, ◌+◌, ◌≤◌, List, [], ◌∷◌, length, Some, None, Option, refl, ap, arith, map, replicate, cond, ◌-◌, ◌<◌, ◌∙◌, get_or, Bool, true}
+use Rattle.std.proofs.Common.{◌≡◌, ℕ, zero, suc, ◌+◌, List, [], ◌∷◌, length, Some, None, Option, refl, ap, arith, map, replicate, cond, ◌-◌, ◌<◌, ◌∙◌, subst, get_or, true}
 use Rattle.std.specs.Prelude.{slice_get, count_by, is_none, unwrap_or, IsSome, IfSome}
 use Rattle.std.specs.Option.{option_map_or}
-use Rattle.std.proofs.lemmas.Option.{slice_get-map}
 use Rattle.std.proofs.lemmas.List.{length-replicate}
 use Rattle.std.proofs.lemmas.List.Sums.{sum_by-cons, count_by-le-length}
 use Rattle.border_climb.specs.Slots.{is_free, is_used, free_numbers, reached, slot_rank, above_slot}
@@ -120,3 +119,8 @@ some_in_words (Some x) P Q f h = f x h
 -- a place that is covered is one of the places
 pub covered_within : (p : Inside) (place : ℕ) → IsCovered (chains_of p) place → place < length p.links.places.items
 covered_within p place h = omega (arith, h.1)
+
+-- what holds of the number in an answer
+pub in_answer : (o : Option ℕ) (x : ℕ) (P : ℕ → Type 0) → IfSome o P → o ≡ Some x → P x
+in_answer None x P h e = cc
+in_answer (Some y) x P h e = let s : y ≡ x = cc in subst P s h

@@ -1,6 +1,6 @@
 -- A part as contracts see it: the chains of its places.
-use Rattle.std.specs.Prelude.{◌≡◌, ℕ, ◌+◌, ◌-◌, ◌<◌, ◌≤◌, List, [], replicate, count_by, Option, Some, None, IsSome, is_none, unwrap_or, slice_get}
-use Rattle.std.specs.Option.{option_and_then, option_map_or}
+use Rattle.std.specs.Prelude.{◌≡◌, ℕ, ◌+◌, ◌-◌, ◌<◌, ◌≤◌, List, [], replicate, count_by, Option, None, IsSome, is_none, unwrap_or, slice_get}
+use Rattle.std.specs.Option.{option_map_or}
 
 -- the cell of an edge: its rank, and the number of the cell above it
 pub record ChainCell : Type 0 where

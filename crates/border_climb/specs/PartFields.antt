@@ -1,5 +1,5 @@
 -- What the fields of a part stand for.
-use Rattle.std.specs.Prelude.{ℕ, ◌+◌, List, length, map, Option, Some, None, Vec, vec_len}
+use Rattle.std.specs.Prelude.{◌+◌, List, length, map, Option, Some, None}
 use Rattle.border_climb.specs.Slots.{reached}
 use Rattle.border_climb.specs.Chains.{Chains, ChainCell}
 use Rattle.border_climb.specs.declared.links.Slot.{Slot}

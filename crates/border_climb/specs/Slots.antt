@@ -1,6 +1,5 @@
 -- The numbers of a part: each has a cell or is free.
 use Rattle.std.specs.Prelude.{◌≡◌, ℕ, ◌+◌, ◌<◌, ◌^◌, length, Bool, true, false, List, count_by, Option, Some, None, slice_get, nat_le, if◌then◌else◌}
-use Rattle.border_climb.specs.declared.links.Cell.{Cell}
 use Rattle.border_climb.specs.declared.links.Met.{Met}
 use Rattle.border_climb.specs.declared.links.Slot.{Slot}
 use Rattle.border_climb.specs.declared.links.Slot.TheVariants.{Used, Free}

@@ -137,13 +137,67 @@ impl Part {
 #[cfg(test)]
 mod tests {
     use super::*;
+    use std::alloc::AllocError;
+    use std::process::Abort;
     use std::test::Fail;
 
-    // The edges by rank are 1-2, 0-3, 0-1 and 2-3.
-    const PLACES: [(u32, u32); 4] = [(1, 2), (0, 3), (0, 1), (2, 3)];
+    // Edges as rank, first place and second place, each with what giving it answers.
+    const FALLING: [(u32, u32, u32, Given); 4] = [
+        (3, 2, 3, Given::Joined),
+        (2, 0, 1, Given::Joined),
+        (0, 1, 2, Given::Joined),
+        (1, 0, 3, Given::Replaced(3)),
+    ];
+
+    const RISING: [(u32, u32, u32, Given); 4] = [
+        (0, 1, 2, Given::Joined),
+        (1, 0, 3, Given::Joined),
+        (2, 0, 1, Given::Joined),
+        (3, 2, 3, Given::Redundant),
+    ];
+
+    fn give_all(rt: &impl Abort, part: &mut Part, edges: &[(u32, u32, u32, Given)])
+        requires first { part.old.first ≡ 0 }
+        requires count { part.old.count ≡ 4 }
+        ensures { KeepsPlaces part.old part.new }
+    {
+        for (rank, a, b, answer) in edges {
+            let e = PlacedEdge {
+                rank: *rank,
+                a: *a,
+                b: *b,
+            };
+            assert!(rt; e.a < 4 && e.b < 4 && e.a != e.b);
+            assert_eq!(rt; part.give(e), *answer, "at rank {rank}");
+        }
+    }
+
+    // The ranks of a place's chain.
+    fn chain(alloc: Global, part: &Part, place: u32) -> Result<Vec<u32>, AllocError>
+        requires { IsCovered part.now place }
+    {
+        let mut ranks = Vec::new(alloc);
+        let mut next = part.up_of_place(place);
+        while let Some(cell) = next {
+            ranks.push(part.rank_of_cell(cell))?;
+            next = part.up_of_cell(cell);
+        }
+        Ok(ranks)
+    }
 
     #[test]
     fn edges_in_any_order(rt: HostRuntime) -> Result<(), Fail> {
+        for edges in [FALLING, RISING] {
+            let mut part = Part::whole(rt.alloc(), 4)?;
+            give_all(&rt, &mut part, &edges);
+            assert_eq!(rt; (part.first(), part.count()), (0, 4));
+            assert_eq!(rt; part.lots().len(), 0);
+            assert_eq!(rt; (part.roots(), part.given()), (1, 4));
+            assert_eq!(rt; chain(rt.alloc(), &part, 0)?.as_slice(), [1, 2].as_slice());
+            assert_eq!(rt; chain(rt.alloc(), &part, 1)?.as_slice(), [0, 2].as_slice());
+            assert_eq!(rt; chain(rt.alloc(), &part, 2)?.as_slice(), [0, 2].as_slice());
+            assert_eq!(rt; chain(rt.alloc(), &part, 3)?.as_slice(), [1, 2].as_slice());
+        }
         Ok(())
     }
 }

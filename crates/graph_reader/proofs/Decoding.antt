@@ -14,7 +14,7 @@ use Rattle.graph_reader.specs.declared.parser.Stage.TheVariants as stages
 use Rattle.graph_reader.specs.Tokens.{PlacedToken, blanked, tokens_from}
 use Rattle.graph_reader.specs.EdgeList.{edge_list, ended, settles}
 use Rattle.graph_reader.specs.Lexing.{meaning_with, lexed}
-use Rattle.graph_reader.specs.Parsing.{Parsing, Takes, reading_at, settling, is_out_of_memory, is_counting}
+use Rattle.graph_reader.specs.Parsing.{Parsing, Takes, reading_at, settling, is_out_of_memory, is_counting, KeepsMemory}
 use Rattle.graph_reader.specs.Progress.{Progress, HasRead, Answers, reading_on, settles_with}
 
 abbrev progress : ℕ → Lexer → Parsing → Progress
@@ -98,10 +98,11 @@ settled-not-counting stages.Edges e = cc
 settled-not-counting _ e = refl
 
 -- once the header is settled, a token neither changes that nor takes memory
-pub stays-settled : (p q : Parsing) (at : ℕ) (token : Token) → Takes p q at token → settling p.stage [] ≡ true
-    → (settling q.stage [] ≡ true) × (is_out_of_memory q.stage ≡ is_out_of_memory p.stage)
-stays-settled p q at token takes e =
-    (takes.settling 0 [] ∙ settled-more p.stage _ e, takes.memory (settled-not-counting p.stage e))
+pub keeps-taking : (p q : Parsing) (at : ℕ) (token : Token) → Takes p q at token → KeepsMemory p q
+keeps-taking p q at token takes = record {
+  out = runs-out p q at token takes;
+  settled = λ e. (takes.settling 0 [] ∙ settled-more p.stage _ e, takes.memory (settled-not-counting p.stage e));
+}
 
 -- at the end no token has ended that had not before
 none-ends : (l : Lexer) (n : ℕ) → ended (n + 0) (lexed l n []) ≡ []

@@ -3,3 +3,4 @@ pub mod Steps
 pub mod Chains
 pub mod Takes
 pub mod Decoding
+pub mod Pictures

@@ -1,5 +1,5 @@
 -- The tokens to come, byte after byte.
-use Rattle.std.proofs.Common.{◌≡◌, ◌≢◌, ℕ, suc, ◌+◌, Bool, true, false, List, [], ◌∷◌, refl, arith, add-zero}
+use Rattle.std.proofs.Common.{length, ◌≡◌, ◌≢◌, ℕ, suc, ◌+◌, Bool, true, false, List, [], ◌∷◌, refl, arith, add-zero}
 use Rattle.std.proofs.lemmas.Bool.{ne_eqb}
 use Rattle.graph_reader.specs.declared.lexer.Text.{Text}
 use Rattle.graph_reader.specs.declared.lexer.Lexer.TheVariants.{Between, Comment, Inside}
@@ -70,7 +70,7 @@ pub between-begin : (text : Text) (place b : ℕ) (rest : List ℕ) → b ≢ 35
     → lexed Between place (b ∷ rest) ≡ lexed (Inside place text) (place + 1) rest
 unfolding lexed
 between-begin text place b rest e s m =
-    rw (blanked-other b rest e, tokens-begin place b (blanked false rest) s, word-other b (blanked false rest) s, m (word (blanked false rest)), shift) refl
+    rw (blanked-other b rest e, tokens-begin place b (blanked false rest) s, word-other b (blanked false rest) s, m (word (blanked false rest)), shift place (length (word (blanked false rest)))) refl
 
 pub inside-hash : (text : Text) (from place : ℕ) (rest : List ℕ)
     → lexed (Inside from text) place (35 ∷ rest) ≡ record { from = from; to = place; token = meaning_with text [] } ∷ lexed Comment (place + 1) rest
@@ -88,4 +88,4 @@ pub inside-more : (text more : Text) (from place b : ℕ) (rest : List ℕ) → 
     → lexed (Inside from text) place (b ∷ rest) ≡ lexed (Inside from more) (place + 1) rest
 unfolding lexed
 inside-more text more from place b rest e s m =
-    rw (blanked-other b rest e, tokens-within place b (blanked false rest) s, word-other b (blanked false rest) s, m (word (blanked false rest)), shift) refl
+    rw (blanked-other b rest e, tokens-within place b (blanked false rest) s, word-other b (blanked false rest) s, m (word (blanked false rest)), shift place (length (word (blanked false rest)))) refl

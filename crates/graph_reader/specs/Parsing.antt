@@ -96,3 +96,8 @@ abbrev pub TakesRoom : Parsing → Parsing → ℕ → Type 0
 TakesRoom old new m =
     (new.stage ≡ stages.OutOfMemory)
     ⊎ (new ≡ record { stage = if old.with_areas then stages.Area else stages.FirstEnd; with_areas = old.with_areas; n = old.n; m = m; areas = []; edges = [] })
+
+-- what ran out of memory stays so; where the header is settled, it stays so and no memory is taken
+pub record KeepsMemory (old new : Parsing) : Type 0 where
+  pub out : is_out_of_memory old.stage ≡ true → is_out_of_memory new.stage ≡ true
+  pub settled : settling old.stage [] ≡ true → (settling new.stage [] ≡ true) × (is_out_of_memory new.stage ≡ is_out_of_memory old.stage)

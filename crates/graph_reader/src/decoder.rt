@@ -1,5 +1,7 @@
 ghost use Rattle.std.specs.Prelude.{◌≡◌, ◌+◌, ◌<◌, ◌≤◌, ◌↔◌, ℕ, List, [], ◌∷◌, ◌++◌, length, IsTrue, IsFalse, IfOk, Err, is_err};
 ghost use Rattle.graph_reader.specs.EdgeList.{edge_list, settles};
+ghost use Rattle.graph_reader.specs.Lexing.{IsLexing};
+ghost use Rattle.graph_reader.specs.Parsing.{KeepsMemory};
 ghost use Rattle.graph_reader.specs.Progress.{HasRead, Answers, is_out_of_memory, is_sized};
 
 use crate::lexer::Lexer;
@@ -56,9 +58,8 @@ impl Decoder {
         ensures stays { IsTrue (is_out_of_memory self.old) → IsTrue (is_out_of_memory self.new) }
         ensures sized { IsTrue (is_sized self.old) → IsTrue (is_sized self.new) × (is_out_of_memory self.new ≡ is_out_of_memory self.old) }
     {
-        for b in piece {
-            self.push(*b);
-        }
+        self.lexer = read_piece(self.lexer, self.taken, &mut self.parser, piece);
+        self.taken += piece.len() as u64;
         if self.parser.is_out_of_memory() {
             Err(OutOfMemory)
         } else {
@@ -96,22 +97,42 @@ impl Decoder {
     {
         self.parser.is_settled()
     }
+}
 
-    // Reads one byte.
-    fn push(&mut self, b: u8)
-        requires { self.old.taken < 134217728 }
-        ensures read { (bytes : List ℕ) → HasRead self.old bytes → HasRead self.new (bytes ++ b ∷ []) }
-        ensures taken { self.new.taken ≡ self.old.taken + 1 }
-        ensures stays { IsTrue (is_out_of_memory self.old) → IsTrue (is_out_of_memory self.new) }
-        ensures sized { IsTrue (is_sized self.old) → IsTrue (is_sized self.new) × (is_out_of_memory self.new ≡ is_out_of_memory self.old) }
-    {
-        let (lexer, found) = self.lexer.after(self.taken, b);
-        self.lexer = lexer;
-        self.taken += 1;
-        if let Some(found) = found {
-            self.parser.take(found.at, found.token);
+// Reads one byte, at this place.
+fn read_byte(lexer: Lexer, place: u64, parser: &mut Parser, b: u8) -> Lexer
+    requires { IsLexing lexer }
+    ensures lexing { IsLexing result }
+    ensures read { (bytes : List ℕ) → HasRead (record { taken = place; lexer = lexer; parsing = parser.old }) bytes
+        → HasRead (record { taken = place + 1; lexer = result; parsing = parser.new }) (bytes ++ b ∷ []) }
+    ensures keeps { KeepsMemory parser.old parser.new }
+{
+    let (next, found) = lexer.after(place, b);
+    match found {
+        Some(found) => {
+            parser.take(found.at, found.token);
+            next
         }
+        None => next,
     }
+}
+
+// Reads a piece that begins at this place.
+fn read_piece(lexer: Lexer, place: u64, parser: &mut Parser, piece: &[u8]) -> Lexer
+    requires lexing { IsLexing lexer }
+    requires short { place + length piece.now ≤ 134217728 }
+    ensures lexing { IsLexing result }
+    ensures read { (bytes : List ℕ) → HasRead (record { taken = place; lexer = lexer; parsing = parser.old }) bytes
+        → HasRead (record { taken = place + length piece.now; lexer = result; parsing = parser.new }) (bytes ++ piece.now) }
+    ensures keeps { KeepsMemory parser.old parser.new }
+{
+    let mut now = lexer;
+    let mut at = place;
+    for b in piece {
+        now = read_byte(now, at, parser, *b);
+        at += 1;
+    }
+    now
 }
 
 /// The graph of an edge list of at most 134,217,728 bytes, or its first fault.

@@ -2,9 +2,14 @@
 #![tactic(auto)]
 
 mod decoder;
+mod laws;
 mod lexer;
 mod parser;
 mod rules;
 mod token;
 
 pub use decoder::{Decoder, read_graph};
+pub use laws::pictures_are_no_edge_lists;
+
+#[cfg(test)]
+mod tests;

@@ -1,3 +1,5 @@
+#![tactic(auto, unfolding(crate::specs::Parsing::reading_at, crate::specs::Parsing::settling, crate::specs::EdgeList::graph, crate::specs::EdgeList::several, crate::specs::EdgeList::edge))]
+
 ghost use Rattle.std.specs.Prelude.{◌≡◌, ◌≢◌, ◌≤◌, ◌↔◌, ◌⊎◌, ℕ, List, [], ◌∷◌, true, false, length, IsTrue, Err};
 ghost use Rattle.graph_reader.specs.Parsing.{Takes, TakesRoom, reading, is_out_of_memory, settling, graph_so_far};
 ghost use Rattle.graph_reader.specs.Progress.{Answers};
@@ -77,7 +79,6 @@ impl Parser {
     }
 
     /// Reads the next token. After a fault, or where memory ran out, nothing changes any more.
-    #[tactic(auto, unfolding(crate::specs::Parsing::reading_at, crate::specs::Parsing::settling))]
     pub fn take(&mut self, at: u64, token: Token)
         ensures { Takes self.old self.new at token }
     {
@@ -93,7 +94,6 @@ impl Parser {
         }
     }
 
-    #[tactic(auto, unfolding(crate::specs::Parsing::reading_at, crate::specs::Parsing::settling, crate::specs::EdgeList::graph))]
     fn take_first_word(&mut self, at: u64, token: Token)
         requires { self.old.stage ≡ Stage.FirstWord }
         ensures { Takes self.old self.new at token }
@@ -107,7 +107,6 @@ impl Parser {
         }
     }
 
-    #[tactic(auto, unfolding(crate::specs::Parsing::reading_at, crate::specs::Parsing::settling))]
     fn take_vertices(&mut self, at: u64, token: Token)
         requires { self.old.stage ≡ Stage.Vertices }
         ensures { Takes self.old self.new at token }
@@ -121,7 +120,6 @@ impl Parser {
         }
     }
 
-    #[tactic(auto, unfolding(crate::specs::Parsing::reading_at, crate::specs::Parsing::settling))]
     fn take_edges(&mut self, at: u64, token: Token)
         requires { self.old.stage ≡ Stage.Edges }
         ensures { Takes self.old self.new at token }
@@ -159,7 +157,6 @@ impl Parser {
         }
     }
 
-    #[tactic(auto, unfolding(crate::specs::Parsing::reading_at, crate::specs::Parsing::settling, crate::specs::EdgeList::several))]
     fn take_area(&mut self, at: u64, token: Token)
         requires { self.old.stage ≡ Stage.Area }
         ensures { Takes self.old self.new at token }
@@ -175,7 +172,6 @@ impl Parser {
         }
     }
 
-    #[tactic(auto, unfolding(crate::specs::Parsing::reading_at, crate::specs::Parsing::settling, crate::specs::EdgeList::several, crate::specs::EdgeList::edge))]
     fn take_first_end(&mut self, at: u64, token: Token)
         requires { self.old.stage ≡ Stage.FirstEnd }
         ensures { Takes self.old self.new at token }
@@ -194,7 +190,6 @@ impl Parser {
         }
     }
 
-    #[tactic(auto, unfolding(crate::specs::Parsing::reading_at, crate::specs::Parsing::settling))]
     fn take_second_end(&mut self, u: u32, at: u64, token: Token)
         requires { self.old.stage ≡ Stage.SecondEnd u }
         ensures { Takes self.old self.new at token }
@@ -205,7 +200,6 @@ impl Parser {
         }
     }
 
-    #[tactic(auto, unfolding(crate::specs::Parsing::reading_at, crate::specs::Parsing::settling, crate::specs::EdgeList::several))]
     fn take_weight(&mut self, u: u32, v: u32, at: u64, token: Token)
         requires { self.old.stage ≡ Stage.Weight u v }
         ensures { Takes self.old self.new at token }
@@ -220,7 +214,6 @@ impl Parser {
     }
 
     /// Whether the number of edges, or a fault, has been read.
-    #[tactic(auto, unfolding(crate::specs::Parsing::reading_at, crate::specs::Parsing::settling))]
     pub fn is_settled(&self) -> bool
         ensures { result ≡ settling self.now.stage [] }
     {
@@ -238,7 +231,6 @@ impl Parser {
     }
 
     /// The graph, where the input ends at this place and has no further token. Takes no memory.
-    #[tactic(auto, unfolding(crate::specs::Parsing::reading_at, crate::specs::Parsing::settling, crate::specs::EdgeList::graph, crate::specs::EdgeList::several))]
     pub fn finish(self, end: u64) -> Result<Graph, ReadError>
         ensures read { is_out_of_memory self.stage ≡ false → Answers result (reading self end []) }
         ensures memory { IsTrue (is_out_of_memory self.stage) ↔ (result ≡ Err ReadError.OutOfMemory) }
@@ -302,7 +294,6 @@ impl Parser {
     }
 
     // The last token is the number of edges: a graph without edges, or the input ends too early.
-    #[tactic(auto, unfolding(crate::specs::Parsing::reading_at, crate::specs::Parsing::settling, crate::specs::EdgeList::several))]
     fn finish_at_edges(self, at: u64, token: Token, end: u64) -> Result<Graph, ReadError>
         requires { self.stage ≡ Stage.Edges }
         ensures read { (to : ℕ) → Answers result (reading self end (record { from = at; to = to; token = token } ∷ [])) }

@@ -1,3 +1,5 @@
+#![tactic(auto, unfolding(crate::specs::EdgeList::first_word, crate::specs::EdgeList::number, crate::specs::EdgeList::vertices, crate::specs::EdgeList::edges, crate::specs::EdgeList::area, crate::specs::EdgeList::first_end, crate::specs::EdgeList::second_end, crate::specs::EdgeList::weight))]
+
 ghost use Rattle.std.specs.Prelude.{◌≡◌, ◌≢◌, ◌<◌, ◌≤◌, ◌^◌, IfOk};
 ghost use Rattle.graph_reader.specs.EdgeList.{first_word, number, at_most, vertices, edges, area, first_end, second_end, weight};
 
@@ -5,7 +7,6 @@ use crate::token::Token;
 use hg_base::{FaultKind, InputFault};
 
 /// Whether the first word says that areas follow.
-#[tactic(auto, unfolding(crate::specs::EdgeList::first_word))]
 pub fn first_word(at: u64, token: Token) -> Result<bool, InputFault>
     ensures { result ≡ first_word at token }
 {
@@ -20,7 +21,6 @@ pub fn first_word(at: u64, token: Token) -> Result<bool, InputFault>
     }
 }
 
-#[tactic(auto, unfolding(crate::specs::EdgeList::number))]
 fn number(at: u64, token: Token) -> Result<u64, InputFault>
     ensures { result ≡ number at token }
 {
@@ -49,7 +49,6 @@ fn at_most(limit: u32, at: u64, n: u64) -> Result<u32, InputFault>
 }
 
 /// The number of vertices.
-#[tactic(auto, unfolding(crate::specs::EdgeList::vertices))]
 pub fn vertices(at: u64, token: Token) -> Result<u32, InputFault>
     ensures value { result ≡ vertices at token }
     ensures range { IfOk result (λ n. (1 ≤ n) × (n ≤ 1048576)) }
@@ -66,7 +65,6 @@ pub fn vertices(at: u64, token: Token) -> Result<u32, InputFault>
 }
 
 /// The number of edges.
-#[tactic(auto, unfolding(crate::specs::EdgeList::edges))]
 pub fn edges(at: u64, token: Token) -> Result<u32, InputFault>
     ensures value { result ≡ edges at token }
     ensures range { IfOk result (λ m. m ≤ 4194304) }
@@ -76,7 +74,6 @@ pub fn edges(at: u64, token: Token) -> Result<u32, InputFault>
 }
 
 /// The area of a vertex.
-#[tactic(auto, unfolding(crate::specs::EdgeList::area))]
 pub fn area(at: u64, token: Token) -> Result<u32, InputFault>
     ensures value { result ≡ area at token }
     ensures range { IfOk result (λ a. (1 ≤ a) × (a ≤ 4096)) }
@@ -93,7 +90,6 @@ pub fn area(at: u64, token: Token) -> Result<u32, InputFault>
 }
 
 /// The first end of an edge between two of n vertices.
-#[tactic(auto, unfolding(crate::specs::EdgeList::first_end))]
 pub fn first_end(n: u32, at: u64, token: Token) -> Result<u32, InputFault>
     ensures value { result ≡ first_end n at token }
     ensures range { IfOk result (λ u. u < n) }
@@ -110,7 +106,6 @@ pub fn first_end(n: u32, at: u64, token: Token) -> Result<u32, InputFault>
 }
 
 /// The second end of an edge between two of n vertices whose first end is u.
-#[tactic(auto, unfolding(crate::specs::EdgeList::second_end))]
 pub fn second_end(n: u32, u: u32, at: u64, token: Token) -> Result<u32, InputFault>
     ensures value { result ≡ second_end n u at token }
     ensures range { IfOk result (λ v. (v < n) × (u ≢ v)) }
@@ -127,7 +122,6 @@ pub fn second_end(n: u32, u: u32, at: u64, token: Token) -> Result<u32, InputFau
 }
 
 /// The weight of an edge.
-#[tactic(auto, unfolding(crate::specs::EdgeList::weight))]
 pub fn weight(at: u64, token: Token) -> Result<u32, InputFault>
     ensures { result ≡ weight at token }
 {

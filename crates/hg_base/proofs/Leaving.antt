@@ -1,11 +1,10 @@
 -- Which edges lead out of a component, and how that changes when two components are joined.
-use Rattle.std.proofs.Common.{◌≡◌, ℕ, Bool, true, false, cond, ◌⊎◌, inl, inr, refl, sym, ◌∙◌, subst, ap, arith}
+use Rattle.std.proofs.Common.{◌≡◌, ℕ, Bool, true, false, cond, ◌⊎◌, inl, inr, refl, sym, ◌∙◌, ap, arith}
 use Rattle.std.specs.Prelude.{not, ◌&&◌, ◌||◌}
 use Rattle.std.proofs.lemmas.Bool.{cases_Bool, or_cases, or_left, or_right, true≢false}
-use Rattle.hg_base.specs.Edges.{ListedEdge, EdgeList, joined, below, link, is_joining, touches}
+use Rattle.hg_base.specs.Edges.{ListedEdge, EdgeList, joined, below, link}
 use Rattle.hg_base.proofs.Link.{IsSame, link_cases, link-old, link-over, link-back}
 use Rattle.hg_base.proofs.Sets.{same_test}
-use Rattle.hg_base.proofs.Walks.{IsSame-joined}
 
 -- one of two, and not both
 abbrev pub xor : Bool → Bool → Bool
@@ -25,8 +24,8 @@ row-same r same x a y h =
 pub link-same : (r : ℕ → ℕ → Bool) → IsSame r → (a b x y : ℕ) → r a b ≡ true → link r a b x y ≡ r x y
 link-same r same a b x y h =
     same_test (link r a b x y) (r x y)
-      (λ k. grind (arith, link_cases r a b x y k, same.on, same.back))
-      (λ k. link-old r a b x y k)
+    (λ k. grind (arith, link_cases r a b x y k, same.on, same.back))
+    (λ k. link-old r a b x y k)
 
 -- a vertex that is joined to neither of the two keeps its row
 pub link-elsewhere : (r : ℕ → ℕ → Bool) (a b x y : ℕ) → r x a ≡ false → r x b ≡ false → link r a b x y ≡ r x y
@@ -40,8 +39,8 @@ link-elsewhere r a b x y ha hb = rw (ha, hb) (or-nothing (r x y))
 pub link-both : (r : ℕ → ℕ → Bool) → IsSame r → (a b x y : ℕ) → r a b ≡ false → (r x a || r x b) ≡ true → link r a b x y ≡ (r a y || r b y)
 link-both r same a b x y apart h =
     same_test (link r a b x y) (r a y || r b y)
-      (λ k. grind (arith, link_cases r a b x y k, same.on, same.back, h))
-      (λ k. grind (arith, same.on, same.back, h, k))
+    (λ k. grind (arith, link_cases r a b x y k, same.on, same.back, h))
+    (λ k. grind (arith, same.on, same.back, h, k))
 
 -- what leaves one of two or the other, where no vertex is in both
 xor-or : (p q p' q' : Bool) → (p && q) ≡ false → (p' && q') ≡ false → xor (p || q) (p' || q') ≡ xor (xor p p') (xor q q')
@@ -68,8 +67,8 @@ and_both false q h = absurd (true≢false (sym h))
 apart-rows : (r : ℕ → ℕ → Bool) → IsSame r → (a b u : ℕ) → r a b ≡ false → (r a u && r b u) ≡ false
 apart-rows r same a b u h =
     same_test (r a u && r b u) false
-      (λ k. let p = and_both (r a u) (r b u) k in sym h ∙ same.on a u b p.0 (same.back b u p.1))
-      (λ k. absurd (true≢false (sym k)))
+    (λ k. let p = and_both (r a u) (r b u) k in sym h ∙ same.on a u b p.0 (same.back b u p.1))
+    (λ k. absurd (true≢false (sym k)))
 
 pub or_neither : (p q : Bool) → (p || q) ≡ false → (p ≡ false) × (q ≡ false)
 or_neither true q h = absurd (true≢false h)
@@ -78,13 +77,14 @@ or_neither false q h = (refl, h)
 -- What leaves the component of x once a and b are joined: what leaves either and not both, where x is in one of
 -- them; what left before, where x is in neither.
 pub xor-link : (r : ℕ → ℕ → Bool) → IsSame r → (a b x u v : ℕ) → r a b ≡ false →
-  xor (link r a b x u) (link r a b x v) ≡ cond (r x a || r x b) (xor (xor (r a u) (r a v)) (xor (r b u) (r b v))) (xor (r x u) (r x v))
+    xor (link r a b x u) (link r a b x v) ≡ cond (r x a || r x b) (xor (xor (r a u) (r a v)) (xor (r b u) (r b v))) (xor (r x u) (r x v))
 xor-link r same a b x u v apart =
-    elim (cases_Bool (r x a || r x b))
-      [ inl one ↦ rw (one, link-both r same a b x u apart one, link-both r same a b x v apart one)
+    elim (cases_Bool (r x a || r x b)) [
+      | inl one ↦ rw (one, link-both r same a b x u apart one, link-both r same a b x v apart one)
           (xor-or (r a u) (r b u) (r a v) (r b v) (apart-rows r same a b u apart) (apart-rows r same a b v apart))
       | inr neither ↦ (let ha = or_neither (r x a) (r x b) neither in
-          rw (neither, link-elsewhere r a b x u ha.0 ha.1, link-elsewhere r a b x v ha.0 ha.1) refl) ]
+          rw (neither, link-elsewhere r a b x u ha.0 ha.1, link-elsewhere r a b x v ha.0 ha.1) refl)
+    ]
 
 -- an edge that leaves the component of x is one that joins and touches x
 pub joins_touching : (r : ℕ → ℕ → Bool) → IsSame r → (x u v : ℕ) → (not (r u v) && (r x u || r x v)) ≡ xor (r x u) (r x v)
@@ -117,7 +117,7 @@ not_both r same a b y apart h =
 
 -- an edge from one component to the other leaves both
 pub crossing_leaves : (r : ℕ → ℕ → Bool) → IsSame r → (a b u v : ℕ) → r a b ≡ false → r a u ≡ true → r b v ≡ true →
-  (xor (r a u) (r a v) && xor (r b u) (r b v)) ≡ true
+    (xor (r a u) (r a v) && xor (r b u) (r b v)) ≡ true
 crossing_leaves r same a b u v apart hu hv =
     let nav : r a v ≡ false = not_both r same a b v apart hv in
     let nbu : r b u ≡ false = not_both r same b a u (same_test (r b a) false (λ k. sym apart ∙ same.back b a k) (λ k. absurd (true≢false (sym k)))) hu in
@@ -125,7 +125,7 @@ crossing_leaves r same a b u v apart hu hv =
 
 -- the same from the other end
 pub crossing_back : (r : ℕ → ℕ → Bool) → IsSame r → (a b u v : ℕ) → r a b ≡ false → r a v ≡ true → r b u ≡ true →
-  (xor (r a u) (r a v) && xor (r b u) (r b v)) ≡ true
+    (xor (r a u) (r a v) && xor (r b u) (r b v)) ≡ true
 crossing_back r same a b u v apart hv hu =
     let nau : r a u ≡ false = not_both r same a b u apart hu in
     let nbv : r b v ≡ false = not_both r same b a v (same_test (r b a) false (λ k. sym apart ∙ same.back b a k) (λ k. absurd (true≢false (sym k)))) hv in
@@ -134,32 +134,37 @@ crossing_back r same a b u v apart hv hu =
 -- the ends of an edge that the link joins were joined, or the edge leaves both components
 linked_leaves : (r : ℕ → ℕ → Bool) → IsSame r → (a b u v : ℕ) → r a b ≡ false → link r a b u v ≡ true → (r u v || (xor (r a u) (r a v) && xor (r b u) (r b v))) ≡ true
 linked_leaves r same a b u v apart h =
-    elim (link_cases r a b u v h)
-      [ inl old ↦ or_left _ _ old
-      | inr over ↦ or_right (r u v) _ (elim over
-          [ inl p ↦ crossing_leaves r same a b u v apart (same.back u a p.0) p.1
-          | inr p ↦ crossing_back r same a b u v apart p.1 (same.back u b p.0) ]) ]
+    elim (link_cases r a b u v h) [
+      | inl old ↦ or_left _ _ old
+      | inr over ↦ or_right (r u v) _ (elim over [
+        | inl p ↦ crossing_leaves r same a b u v apart (same.back u a p.0) p.1
+        | inr p ↦ crossing_back r same a b u v apart p.1 (same.back u b p.0)
+      ])
+    ]
 
 -- an edge that leaves both components has its ends joined by the link
 leaving_linked : (r : ℕ → ℕ → Bool) → IsSame r → (a b u v : ℕ) → r a b ≡ false → (r u v || (xor (r a u) (r a v) && xor (r b u) (r b v))) ≡ true → link r a b u v ≡ true
 leaving_linked r same a b u v apart h =
-    elim (or_cases _ _ h)
-      [ inl old ↦ link-old r a b u v old
+    elim (or_cases _ _ h) [
+      | inl old ↦ link-old r a b u v old
       | inr both ↦ (let p = and_both _ _ both in
-          elim (xor_cases (r a u) (r a v) p.0)
-            [ inl first ↦ elim (xor_cases (r b u) (r b v) p.1)
-                [ inl clash ↦ absurd (true≢false (sym (same.on a u b first.0 (same.back b u clash.0)) ∙ apart))
-                | inr second ↦ link-over r a b u v (same.back a u first.0) second.1 ]
-            | inr first ↦ elim (xor_cases (r b u) (r b v) p.1)
-                [ inl second ↦ link-back r a b u v (same.back b u second.0) first.1
-                | inr clash ↦ absurd (true≢false (sym (same.on a v b first.1 (same.back b v clash.1)) ∙ apart)) ]
-            ]) ]
+          elim (xor_cases (r a u) (r a v) p.0) [
+            | inl first ↦ elim (xor_cases (r b u) (r b v) p.1) [
+              | inl clash ↦ absurd (true≢false (sym (same.on a u b first.0 (same.back b u clash.0)) ∙ apart))
+              | inr second ↦ link-over r a b u v (same.back a u first.0) second.1
+            ]
+            | inr first ↦ elim (xor_cases (r b u) (r b v) p.1) [
+              | inl second ↦ link-back r a b u v (same.back b u second.0) first.1
+              | inr clash ↦ absurd (true≢false (sym (same.on a v b first.1 (same.back b v clash.1)) ∙ apart))
+            ]
+          ])
+    ]
 
 -- Whether an edge still joins once a and b are joined: not where it leaves both.
 pub joins-link : (r : ℕ → ℕ → Bool) → IsSame r → (a b u v : ℕ) → r a b ≡ false →
-  not (link r a b u v) ≡ (not (r u v) && not (xor (r a u) (r a v) && xor (r b u) (r b v)))
+    not (link r a b u v) ≡ (not (r u v) && not (xor (r a u) (r a v) && xor (r b u) (r b v)))
 joins-link r same a b u v apart =
     ap not (same_test (link r a b u v) (r u v || (xor (r a u) (r a v) && xor (r b u) (r b v)))
-      (λ k. linked_leaves r same a b u v apart k)
-      (λ k. leaving_linked r same a b u v apart k))
+    (λ k. linked_leaves r same a b u v apart k)
+    (λ k. leaving_linked r same a b u v apart k))
     ∙ not-or (r u v) (xor (r a u) (r a v) && xor (r b u) (r b v))

@@ -23,4 +23,5 @@ pub mod CountBy
 pub mod Pigeons
 pub mod Ranks
 pub mod Ranked
+pub mod LawForms
 pub mod Lines

@@ -1,7 +1,6 @@
 -- Tests that say which vertices belong together, and what joining two of them does.
-use Rattle.std.proofs.Common.{◌≡◌, ℕ, Bool, true, false, ◌⊎◌, inl, inr, refl, arith}
-use Rattle.std.specs.Prelude.{◌&&◌, ◌||◌}
-use Rattle.std.proofs.lemmas.Bool.{cases_Bool, or_cases, and_parts, or_left, or_right, and_from}
+use Rattle.std.proofs.Common.{◌≡◌, ℕ, Bool, true, ◌⊎◌, arith}
+use Rattle.std.proofs.lemmas.Bool.{or_cases, and_parts, or_left, or_right, and_from}
 use Rattle.hg_base.specs.Edges.{link}
 
 -- r is an equivalence
@@ -16,7 +15,7 @@ link-old r u v x y h = or_left _ _ h
 
 -- the three ways to be joined by a link
 pub link_cases : (r : ℕ → ℕ → Bool) (u v x y : ℕ) → link r u v x y ≡ true →
-  (r x y ≡ true) ⊎ (((r x u ≡ true) × (r v y ≡ true)) ⊎ ((r x v ≡ true) × (r u y ≡ true)))
+    (r x y ≡ true) ⊎ (((r x u ≡ true) × (r v y ≡ true)) ⊎ ((r x v ≡ true) × (r u y ≡ true)))
 link_cases r u v x y h = grind (arith, or_cases, and_parts)
 
 -- a link from x to u, over to v and on to y
@@ -37,8 +36,8 @@ link-transitive r e u v x y z h k = grind (arith, link_cases r u v x y h, link_c
 
 -- a link of an equivalence is an equivalence
 pub IsSame-link : (r : ℕ → ℕ → Bool) → IsSame r → (u v : ℕ) → IsSame (link r u v)
-IsSame-link r e u v = record
-  { self = λ x. link-old r u v x x (e.self x)
-  ; back = link-symmetric r e u v
-  ; on = link-transitive r e u v
-  }
+IsSame-link r e u v = record {
+  self = λ x. link-old r u v x x (e.self x);
+  back = link-symmetric r e u v;
+  on = link-transitive r e u v;
+}

@@ -1,12 +1,12 @@
 -- The nodes of the tree of an edge list: which edge made a node, and which node is its parent.
-use Rattle.std.proofs.Common.{◌≡◌, ℕ, zero, suc, ◌+◌, ◌<◌, ◌≤◌, Bool, true, false, cond, ◌⊎◌, inl, inr, refl, sym, ◌∙◌, subst, ap, arith, List, [], ◌∷◌, ◌++◌, length, map, length-append}
+use Rattle.std.proofs.Common.{◌≡◌, ℕ, zero, suc, ◌+◌, ◌<◌, inl, inr, refl, sym, ◌∙◌, ap, arith, List, [], ◌∷◌, ◌++◌, length, map, length-append}
 use Rattle.std.proofs.lemmas.List.{length-map}
-use Rattle.std.specs.Prelude.{Option, Some, None, unwrap_or, slice_get, nat_lt}
+use Rattle.std.specs.Prelude.{Option, Some, unwrap_or, slice_get}
 use Rattle.std.specs.List.{range_with_len}
-use Rattle.std.proofs.lemmas.Bool.{cases_order, le-ltb, lt-ltb}
+use Rattle.std.proofs.lemmas.Bool.{lt-ltb}
 use Rattle.std.proofs.lemmas.List.FromFn.{length-map-range_with_len}
 use Rattle.hg_base.specs.Edges.{ListedEdge, EdgeList, IsIn, AreApart, below, joins, next}
-use Rattle.hg_base.specs.Tree.{ParentTree, parent, place, node_or, tree_of}
+use Rattle.hg_base.specs.Tree.{parent, place, node_or, tree_of}
 use Rattle.hg_base.proofs.Members.{IsRising, IsIn-below_kept}
 use Rattle.hg_base.proofs.Sets.{IsRising-joins}
 use Rattle.hg_base.proofs.Components.{nothing-in}
@@ -39,11 +39,12 @@ slice_get-mapped {X} f (y ∷ ys) (suc i) x h = slice_get-mapped f ys i x h
 pub none_before_first : (g : ListedEdge) (t : EdgeList) → IsRising (g ∷ t) → (e : ListedEdge) → g ≡ e → below (g ∷ t) e.rank ≡ []
 none_before_first g t h e same = nothing-in (below (g ∷ t) e.rank) (λ f k.
     (let p = IsIn-below_kept f (g ∷ t) e.rank k in
-     let low : f.rank < e.rank = p.1 in
-     let r : g.rank ≡ e.rank = ap (λ (x : ListedEdge). x.rank) same in
-     elim p.0 as (λ _. ⊥)
-       [ inl first ↦ (let q : g.rank ≡ f.rank = ap (λ (x : ListedEdge). x.rank) first in omega arith)
-       | inr later ↦ (let q : g.rank < f.rank = h.0 f later in omega arith) ]))
+    let low : f.rank < e.rank = p.1 in
+    let r : g.rank ≡ e.rank = ap (λ (x : ListedEdge). x.rank) same in
+    elim p.0 as (λ _. ⊥) [
+      | inl first ↦ (let q : g.rank ≡ f.rank = ap (λ (x : ListedEdge). x.rank) first in omega arith)
+      | inr later ↦ (let q : g.rank < f.rank = h.0 f later in omega arith)
+    ]))
 
 -- an edge of a rising list stands behind the edges of lower rank
 pub rising-place : (t : EdgeList) → IsRising t → (e : ListedEdge) → IsIn e t → slice_get t (length (below t e.rank)) ≡ Some e
@@ -104,14 +105,14 @@ parent-leaf n s x h =
     let g : ListedEdge → ℕ = λ e. node_or n s (n + place s e) (next s e.u (suc e.rank)) in
     let len : length (map (λ y. node_or n s y (next s y 0)) (range_with_len 0 n)) ≡ n = length-map-range_with_len (λ y. node_or n s y (next s y 0)) 0 n in
     ap (λ (o : Option ℕ). unwrap_or o x)
-      (slice_get-front (map (λ y. node_or n s y (next s y 0)) (range_with_len 0 n)) (map (λ e. node_or n s (n + place s e) (next s e.u (suc e.rank))) (joins s)) x (omega arith)
-       ∙ slice_get-values (λ y. node_or n s y (next s y 0)) 0 n x x h (omega arith))
+    (slice_get-front (map (λ y. node_or n s y (next s y 0)) (range_with_len 0 n)) (map (λ e. node_or n s (n + place s e) (next s e.u (suc e.rank))) (joins s)) x (omega arith)
+    ∙ slice_get-values (λ y. node_or n s y (next s y 0)) 0 n x x h (omega arith))
 
 -- the parent of an inner node is made by the edge after its own
 pub parent-inner : (n : ℕ) (s : EdgeList) → AreApart s → (e : ListedEdge) → IsIn e (joins s) →
-  parent (tree_of n s) (n + place s e) ≡ node_or n s (n + place s e) (next s e.u (suc e.rank))
+    parent (tree_of n s) (n + place s e) ≡ node_or n s (n + place s e) (next s e.u (suc e.rank))
 parent-inner n s h e i =
     let len : length (map (λ y. node_or n s y (next s y 0)) (range_with_len 0 n)) ≡ n = length-map-range_with_len (λ y. node_or n s y (next s y 0)) 0 n in
     ap (λ (o : Option ℕ). unwrap_or o (n + place s e))
-      (slice_get-back (map (λ y. node_or n s y (next s y 0)) (range_with_len 0 n)) (map (λ f. node_or n s (n + place s f) (next s f.u (suc f.rank))) (joins s)) (place s e) (n + place s e) (omega (arith, len))
-       ∙ slice_get-mapped (λ f. node_or n s (n + place s f) (next s f.u (suc f.rank))) (joins s) (place s e) e (joins-at s h e i))
+    (slice_get-back (map (λ y. node_or n s y (next s y 0)) (range_with_len 0 n)) (map (λ f. node_or n s (n + place s f) (next s f.u (suc f.rank))) (joins s)) (place s e) (n + place s e) (omega (arith, len))
+    ∙ slice_get-mapped (λ f. node_or n s (n + place s f) (next s f.u (suc f.rank))) (joins s) (place s e) e (joins-at s h e i))

@@ -1,28 +1,27 @@
 -- The path of a leaf in the tree of an edge list: the leaf, and the nodes that the edges of its chain make.
-use Rattle.std.proofs.Common.{◌≡◌, ◌≢◌, ℕ, zero, suc, ◌+◌, ◌-◌, ◌<◌, ◌≤◌, Bool, true, false, ◌⊎◌, inl, inr, refl, sym, ◌∙◌, subst, ap, arith, List, [], ◌∷◌, length}
-use Rattle.std.specs.Prelude.{Option, Some, None, not, ◌||◌}
-use Rattle.std.proofs.lemmas.Bool.{cases_Bool, cases_order, or_cases, or_left, or_right, true≢false}
-use Rattle.hg_base.specs.Edges.{ListedEdge, EdgeList, IsIn, AreApart, joined, below, is_joining, joins, next, link}
-use Rattle.hg_base.specs.Tree.{ParentTree, parent, ancestor, IsAbove, place, node_or, tree_of}
-use Rattle.hg_base.proofs.Link.{IsSame, link_cases}
-use Rattle.hg_base.proofs.Walks.{IsSame-joined, joined-ends}
-use Rattle.hg_base.proofs.Members.{IsIn-below}
-use Rattle.hg_base.proofs.Sets.{same_test, joined_below-more, IsIn-joins, IsIn-joins_kept}
-use Rattle.hg_base.proofs.Fronts.{joined-step_with, apart-one}
-use Rattle.hg_base.proofs.Leaving.{xor, leaves, xor_cases, row-same}
+use Rattle.std.proofs.Common.{◌≡◌, ℕ, zero, suc, ◌+◌, ◌<◌, ◌≤◌, true, false, ◌⊎◌, inl, inr, refl, sym, ◌∙◌, subst, ap, arith}
+use Rattle.std.specs.Prelude.{Option, Some, None, not}
+use Rattle.std.proofs.lemmas.Bool.{cases_order, true≢false}
+use Rattle.hg_base.specs.Edges.{ListedEdge, EdgeList, IsIn, AreApart, joined, below, is_joining, joins, next}
+use Rattle.hg_base.specs.Tree.{parent, ancestor, IsAbove, place, node_or, tree_of}
+use Rattle.hg_base.proofs.Walks.{IsSame-joined}
+use Rattle.hg_base.proofs.Sets.{same_test, IsIn-joins}
+use Rattle.hg_base.proofs.Fronts.{apart-one}
+use Rattle.hg_base.proofs.Leaving.{leaves, xor_cases}
 use Rattle.hg_base.proofs.Next.{IsFirst, next-first}
 use Rattle.hg_base.proofs.Merged.{next-row, joined-to_end}
-use Rattle.hg_base.proofs.Nodes.{parent-leaf, parent-inner, place-one, slice_get-less, joins-at}
+use Rattle.hg_base.proofs.Nodes.{parent-leaf, parent-inner}
 
 -- an edge that leaves a component is a joining edge
 pub leaving-joins : (s : EdgeList) (x : ℕ) (e : ListedEdge) → leaves s x e ≡ true → is_joining s e ≡ true
 leaving-joins s x e t =
     let r = IsSame-joined (below s e.rank) in
     ap not (same_test (joined (below s e.rank) e.u e.v) false
-      (λ k. absurd (elim (xor_cases (joined (below s e.rank) x e.u) (joined (below s e.rank) x e.v) t)
-        [ inl p ↦ true≢false (sym (r.on x e.u e.v p.0 k) ∙ p.1)
-        | inr p ↦ true≢false (sym (r.on x e.v e.u p.1 (r.back e.u e.v k)) ∙ p.0) ]))
-      (λ k. absurd (true≢false (sym k))))
+    (λ k. absurd (elim (xor_cases (joined (below s e.rank) x e.u) (joined (below s e.rank) x e.v) t) [
+      | inl p ↦ true≢false (sym (r.on x e.u e.v p.0 k) ∙ p.1)
+      | inr p ↦ true≢false (sym (r.on x e.v e.u p.1 (r.back e.u e.v k)) ∙ p.0)
+    ]))
+    (λ k. absurd (true≢false (sym k))))
 
 -- y is on the path where it is the leaf, or the node of an edge that leaves the leaf's component
 pub record IsMadeBy (n : ℕ) (s : EdgeList) (y i : ℕ) (e : ListedEdge) : Type 0 where
@@ -35,11 +34,11 @@ IsIn-joins_made n s y i e m = IsIn-joins s e m.member (leaving-joins s y e m.lea
 
 -- the parent of a node made by e is made by the next edge of y's chain
 parent-made : (n : ℕ) (s : EdgeList) → AreApart s → (y i : ℕ) (e : ListedEdge) → IsMadeBy n s y i e →
-  parent (tree_of n s) i ≡ node_or n s i (next s y (suc e.rank))
+    parent (tree_of n s) i ≡ node_or n s i (next s y (suc e.rank))
 parent-made n s h y i e m =
     subst (λ (j : ℕ). parent (tree_of n s) j ≡ node_or n s j (next s y (suc e.rank))) (sym m.node)
-      (parent-inner n s h e (IsIn-joins_made n s y i e m)
-       ∙ ap (node_or n s (n + place s e)) (sym (next-row s h y e.u (suc e.rank) (joined-to_end s e y m.member m.leaving))))
+    (parent-inner n s h e (IsIn-joins_made n s y i e m)
+    ∙ ap (node_or n s (n + place s e)) (sym (next-row s h y e.u (suc e.rank) (joined-to_end s e y m.member m.leaving))))
 
 -- a node on the path of y
 abbrev pub IsOnPath : ℕ → EdgeList → ℕ → ℕ → Type 0
@@ -54,13 +53,14 @@ node_or-path n s y k i (Some e) f on = inr (e, record { member = f.0.0; leaving 
 pub ancestor-path : (n : ℕ) (s : EdgeList) → AreApart s → (y : ℕ) → y < n → (d : ℕ) → IsOnPath n s y (ancestor (tree_of n s) d y)
 ancestor-path n s h y lt zero = inl refl
 ancestor-path n s h y lt (suc d) =
-    elim (ancestor-path n s h y lt d)
-      [ inl leaf ↦ subst (λ (i : ℕ). IsOnPath n s y i)
+    elim (ancestor-path n s h y lt d) [
+      | inl leaf ↦ subst (λ (i : ℕ). IsOnPath n s y i)
           (sym (ap (parent (tree_of n s)) leaf ∙ parent-leaf n s y lt))
           (node_or-path n s y 0 y (next s y 0) (next-first s h y 0) (inl refl))
       | inr made ↦ subst (λ (i : ℕ). IsOnPath n s y i)
           (sym (parent-made n s h y (ancestor (tree_of n s) d y) made.0 made.1))
-          (node_or-path n s y (suc made.0.rank) (ancestor (tree_of n s) d y) (next s y (suc made.0.rank)) (next-first s h y (suc made.0.rank)) (inr made)) ]
+          (node_or-path n s y (suc made.0.rank) (ancestor (tree_of n s) d y) (next s y (suc made.0.rank)) (next-first s h y (suc made.0.rank)) (inr made))
+    ]
 
 -- the d-th ancestor of y has as parent what `next` from rank k on makes
 abbrev pub NextFrom : ℕ → EdgeList → ℕ → ℕ → ℕ → Type 0
@@ -68,25 +68,28 @@ NextFrom n s y d k = parent (tree_of n s) (ancestor (tree_of n s) d y) ≡ node_
 
 -- each edge that leaves y's component, from rank k on, makes an ancestor
 climb_to : (n : ℕ) (s : EdgeList) → AreApart s → (m y d k : ℕ) → NextFrom n s y d k →
-  (e : ListedEdge) → IsIn e s → leaves s y e ≡ true → k ≤ e.rank → e.rank < k + m → IsAbove (tree_of n s) (n + place s e) y
+    (e : ListedEdge) → IsIn e s → leaves s y e ≡ true → k ≤ e.rank → e.rank < k + m → IsAbove (tree_of n s) (n + place s e) y
 climb_to n s h zero y d k from e i t low high = absurd (omega arith)
 climb_to n s h (suc m) y d k from e i t low high =
     go (λ j from' low' high'. climb_to n s h m y (suc d) j from' e i t low' high') (next s y k) refl (next-first s h y k)
   where
     Again : Type 0
     Again = (j : ℕ) → NextFrom n s y (suc d) j → j ≤ e.rank → e.rank < j + m → IsAbove (tree_of n s) (n + place s e) y
+
     go : Again → (o : Option ListedEdge) → next s y k ≡ o → IsFirst (leaves s y) s k o → IsAbove (tree_of n s) (n + place s e) y
     go again None eq f = absurd (let below_k : e.rank < k = f e i t in omega arith)
     go again (Some g) eq f =
-      let up : parent (tree_of n s) (ancestor (tree_of n s) d y) ≡ n + place s g = from ∙ ap (node_or n s (ancestor (tree_of n s) d y)) eq in
-      let made : IsMadeBy n s y (ancestor (tree_of n s) (suc d) y) g = record { member = f.0.0; leaving = f.0.1.0; node = up } in
-      let least : g.rank ≤ e.rank = f.1 e i t low in
-      let from_k : k ≤ g.rank = f.0.1.1 in
-      elim (cases_order g.rank e.rank)
-        [ inl level ↦ (suc d, up ∙ ap (λ (x : ListedEdge). n + place s x) (apart-one s h g e f.0.0 i level))
-        | inr other ↦ elim other
-            [ inl lower ↦ again (suc g.rank) (parent-made n s h y (ancestor (tree_of n s) (suc d) y) g made) lower (omega arith)
-            | inr higher ↦ absurd (omega arith) ] ]
+        let up : parent (tree_of n s) (ancestor (tree_of n s) d y) ≡ n + place s g = from ∙ ap (node_or n s (ancestor (tree_of n s) d y)) eq in
+        let made : IsMadeBy n s y (ancestor (tree_of n s) (suc d) y) g = record { member = f.0.0; leaving = f.0.1.0; node = up } in
+        let least : g.rank ≤ e.rank = f.1 e i t low in
+        let from_k : k ≤ g.rank = f.0.1.1 in
+        elim (cases_order g.rank e.rank) [
+          | inl level ↦ (suc d, up ∙ ap (λ (x : ListedEdge). n + place s x) (apart-one s h g e f.0.0 i level))
+          | inr other ↦ elim other [
+            | inl lower ↦ again (suc g.rank) (parent-made n s h y (ancestor (tree_of n s) (suc d) y) g made) lower (omega arith)
+            | inr higher ↦ absurd (omega arith)
+          ]
+        ]
 
 -- each edge that leaves the component of a leaf makes a node above it
 pub made-above : (n : ℕ) (s : EdgeList) → AreApart s → (y : ℕ) → y < n → (e : ListedEdge) → IsIn e s → leaves s y e ≡ true → IsAbove (tree_of n s) (n + place s e) y

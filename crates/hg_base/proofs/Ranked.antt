@@ -1,14 +1,14 @@
 -- The ranked edges of a graph: different ranks, ends among the vertices, weights that don't fall.
-use Rattle.std.proofs.Common.{◌≡◌, ◌≢◌, ℕ, zero, suc, ◌+◌, ◌<◌, ◌≤◌, Bool, true, false, ◌⊎◌, inl, inr, refl, sym, ◌∙◌, subst, ap, arith, List, [], ◌∷◌, length, map}
-use Rattle.std.specs.Prelude.{Option, Some, None, All, slice_get}
+use Rattle.std.proofs.Common.{◌≡◌, ℕ, zero, suc, ◌+◌, ◌<◌, ◌≤◌, inl, inr, sym, ◌∙◌, subst, ap, arith, length, map}
+use Rattle.std.specs.Prelude.{Option, Some, slice_get}
 use Rattle.std.specs.Option.{option_map_or}
 use Rattle.std.specs.List.{range_with_len}
 use Rattle.std.proofs.lemmas.Bool.{cases_order, or_left, lt-ltb}
 use Rattle.std.proofs.lemmas.Option.{get_or_from_slice_get}
 use Rattle.hg_base.specs.declared.graph.Edge.{Edge}
 use Rattle.hg_base.specs.Graph.{WeightedGraph, IsGraph, JoinsTwo, first_end, second_end, weight}
-use Rattle.hg_base.specs.Edges.{ListedEdge, EdgeList, IsIn, AreApart, AreWithin}
-use Rattle.hg_base.specs.Rank.{numbers, number_at, rank, listed, ranked, comes_before}
+use Rattle.hg_base.specs.Edges.{ListedEdge, IsIn, AreApart, AreWithin}
+use Rattle.hg_base.specs.Rank.{number_at, rank, listed, ranked}
 use Rattle.hg_base.specs.Saliency.{AreByWeight}
 use Rattle.hg_base.proofs.Nodes.{slice_get-some}
 use Rattle.hg_base.proofs.Ranks.{number_at-below, number_at-rank, rank-number_at, rank-below, rank-lt}
@@ -24,28 +24,32 @@ IsIn-values f a (suc n) x (inr later) =
 IsIn-value : {X : Type 0} (f : ℕ → X) (a n k : ℕ) → a ≤ k → k < a + n → IsIn (f k) (map f (range_with_len a n))
 IsIn-value f a zero k low high = absurd (omega arith)
 IsIn-value {X} f a (suc n) k low high =
-    elim (cases_order a k)
-      [ inl level ↦ inl (ap f level)
-      | inr other ↦ elim other
-          [ inl later ↦ inr (IsIn-value f (a + 1) n k (omega arith) (omega arith))
-          | inr before ↦ absurd (omega arith) ] ]
+    elim (cases_order a k) [
+      | inl level ↦ inl (ap f level)
+      | inr other ↦ elim other [
+        | inl later ↦ inr (IsIn-value f (a + 1) n k (omega arith) (omega arith))
+        | inr before ↦ absurd (omega arith)
+      ]
+    ]
 
 -- an edge of the ranked list, by its rank
 pub ranked-at : (g : WeightedGraph) (e : ListedEdge) → IsIn e (ranked g) → (e.rank < length g.edges) × (e ≡ listed g e.rank (number_at g e.rank))
 ranked-at g e i =
     let p = IsIn-values (λ k. listed g k (number_at g k)) 0 (length g.edges) e i in
-    let same : p.0 ≡ e.rank = ap (λ (x : ListedEdge). x.rank) p.1.1.1 in
-    ((let high : p.0 < 0 + length g.edges = p.1.1.0 in omega arith),
-     sym p.1.1.1 ∙ ap (λ (k : ℕ). listed g k (number_at g k)) same)
+    let same : p.0 ≡ e.rank = ap (λ (x : ListedEdge). x.rank) p.1.1.1 in (
+      (let high : p.0 < 0 + length g.edges = p.1.1.0 in omega arith),
+      sym p.1.1.1 ∙ ap (λ (k : ℕ). listed g k (number_at g k)) same,
+    )
 
 -- values at different numbers have different ranks
 apart-values : (g : WeightedGraph) (a n : ℕ) → AreApart (map (λ k. listed g k (number_at g k)) (range_with_len a n))
 apart-values g a zero = tt
-apart-values g a (suc n) =
-    (λ f i r. (let p = IsIn-values (λ k. listed g k (number_at g k)) (a + 1) n f i in
-        let same : p.0 ≡ f.rank = ap (λ (x : ListedEdge). x.rank) p.1.1.1 in
-        let low : a + 1 ≤ p.0 = p.1.0 in omega arith),
-     apart-values g (a + 1) n)
+apart-values g a (suc n) = (
+  λ f i r. (let p = IsIn-values (λ k. listed g k (number_at g k)) (a + 1) n f i in
+      let same : p.0 ≡ f.rank = ap (λ (x : ListedEdge). x.rank) p.1.1.1 in
+      let low : a + 1 ≤ p.0 = p.1.0 in omega arith),
+  apart-values g (a + 1) n,
+)
 
 -- no two edges of a graph have one rank
 pub AreApart-ranked : (g : WeightedGraph) → AreApart (ranked g)
@@ -60,9 +64,10 @@ edge-there g h e lt =
 -- the ends of an edge of a graph are vertices
 pub ends-within : (g : WeightedGraph) → IsGraph g → (e : ℕ) → e < length g.edges → (first_end g e < g.n) × (second_end g e < g.n)
 ends-within g h e lt =
-    let there = edge-there g h e lt in
-    (subst (λ (o : Option Edge). option_map_or (λ x. x.u) o 0 < g.n) (sym there.1.0) there.1.1.u,
-     subst (λ (o : Option Edge). option_map_or (λ x. x.v) o 0 < g.n) (sym there.1.0) there.1.1.v)
+    let there = edge-there g h e lt in (
+      subst (λ (o : Option Edge). option_map_or (λ x. x.u) o 0 < g.n) (sym there.1.0) there.1.1.u,
+      subst (λ (o : Option Edge). option_map_or (λ x. x.v) o 0 < g.n) (sym there.1.0) there.1.1.v,
+    )
 
 -- the ends of the ranked edges are vertices
 pub AreWithin-ranked : (g : WeightedGraph) → IsGraph g → AreWithin g.n (ranked g)
@@ -83,17 +88,19 @@ AreByWeight-ranked g e f i j lt =
     let wf : f.weight ≡ weight g (number_at g f.rank) = ap (λ (x : ListedEdge). x.weight) af.1 in
     let re : rank g (number_at g e.rank) ≡ e.rank = rank-number_at g e.rank le in
     let rf : rank g (number_at g f.rank) ≡ f.rank = rank-number_at g f.rank lf in
-    elim (cases_order f.weight e.weight)
-      [ inl level ↦ omega arith
-      | inr other ↦ elim other
-          [ inl lighter ↦ absurd (let less : rank g (number_at g f.rank) < rank g (number_at g e.rank) =
-                rank-lt g (number_at g e.rank) (number_at g f.rank) (number_at-below g f.rank (omega arith))
-                  (or_left _ _ (lt-ltb (weight g (number_at g f.rank)) (weight g (number_at g e.rank)) (omega arith))) in
-              omega arith)
-          | inr heavier ↦ omega arith ] ]
+    elim (cases_order f.weight e.weight) [
+      | inl level ↦ omega arith
+      | inr other ↦ elim other [
+        | inl lighter ↦ absurd (let less : rank g (number_at g f.rank) < rank g (number_at g e.rank) =
+            rank-lt g (number_at g e.rank) (number_at g f.rank) (number_at-below g f.rank (omega arith))
+            (or_left _ _ (lt-ltb (weight g (number_at g f.rank)) (weight g (number_at g e.rank)) (omega arith))) in
+            omega arith)
+        | inr heavier ↦ omega arith
+      ]
+    ]
 
 -- each edge of a graph is in its ranked list
 pub IsIn-ranked : (g : WeightedGraph) (e : ℕ) → e < length g.edges → IsIn (listed g (rank g e) e) (ranked g)
 IsIn-ranked g e lt =
     subst (λ (n : ℕ). IsIn (listed g (rank g e) n) (ranked g)) (number_at-rank g e lt)
-      (IsIn-value (λ k. listed g k (number_at g k)) 0 (length g.edges) (rank g e) (omega arith) (let r = rank-below g e lt in omega (arith, r)))
+    (IsIn-value (λ k. listed g k (number_at g k)) 0 (length g.edges) (rank g e) (omega arith) (let r = rank-below g e lt in omega (arith, r)))

@@ -1,9 +1,8 @@
 -- Who is joined, which edges join and the chains depend on the set of edges alone.
-use Rattle.std.proofs.Common.{◌≡◌, ℕ, ◌<◌, ◌≤◌, Bool, true, false, ◌⊎◌, inl, inr, refl, sym, ◌∙◌, subst, ap, arith, List, [], ◌∷◌}
-use Rattle.std.specs.Prelude.{not, ◌||◌, filter}
-use Rattle.std.proofs.lemmas.Bool.{cases_Bool}
-use Rattle.hg_base.specs.Edges.{ListedEdge, EdgeList, IsIn, AreApart, IsWalk, Joined, joined, below, in_order, is_joining, joins, touches, chain, next, first_edge}
-use Rattle.hg_base.proofs.Members.{IsSameSet, IsSameSet-back, IsSameSet-filter, IsSameSet-below, IsSameSet-in_order, IsIn-below, IsIn-below_kept, IsIn-filter, IsIn-kept, IsRising, IsRising-filter, IsRising-in_order, rising-same}
+use Rattle.std.proofs.Common.{◌≡◌, ℕ, ◌<◌, ◌≤◌, Bool, true, false, refl, sym, ◌∙◌, ap, arith, List, [], ◌∷◌}
+use Rattle.std.specs.Prelude.{not, filter}
+use Rattle.hg_base.specs.Edges.{ListedEdge, EdgeList, IsIn, AreApart, IsWalk, joined, below, in_order, is_joining, joins, touches, chain, next}
+use Rattle.hg_base.proofs.Members.{IsSameSet, IsSameSet-below, IsSameSet-in_order, IsIn-below, IsIn-below_kept, IsIn-filter, IsIn-kept, IsRising, IsRising-filter, IsRising-in_order, rising-same}
 use Rattle.hg_base.proofs.Walks.{joined-walk, Joined-joined}
 
 -- two tests are one where each answers true when the other does
@@ -14,7 +13,7 @@ same_test false true f g = g refl
 same_test false false f g = refl
 
 -- a walk stays a walk among more edges
-walk-among : (s t : EdgeList) → ((e : ListedEdge) → IsIn e s → IsIn e t) → (x : ℕ) (zs : List ℕ) (y : ℕ) → IsWalk s x zs y → IsWalk t x zs y
+pub walk-among : (s t : EdgeList) → ((e : ListedEdge) → IsIn e s → IsIn e t) → (x : ℕ) (zs : List ℕ) (y : ℕ) → IsWalk s x zs y → IsWalk t x zs y
 walk-among s t more x [] y w = w
 walk-among s t more x (z ∷ zs) y w = ((w.0.0, (more w.0.0 w.0.1.0, w.0.1.1)), walk-among s t more z zs y w.1)
 
@@ -35,7 +34,7 @@ joined_below-same s t k x y h = joined-same _ _ x y (IsSameSet-below s t k h)
 pub joined_below-more : (s : EdgeList) (j k x y : ℕ) → j ≤ k → joined (below s j) x y ≡ true → joined (below s k) x y ≡ true
 joined_below-more s j k x y h =
     joined-among (below s j) (below s k) x y
-      (λ e i. let p = IsIn-below_kept e s j i in IsIn-below e s k p.0 (let low : e.rank < j = p.1 in omega arith))
+    (λ e i. let p = IsIn-below_kept e s j i in IsIn-below e s k p.0 (let low : e.rank < j = p.1 in omega arith))
 
 pub is_joining-same : (s t : EdgeList) (e : ListedEdge) → IsSameSet s t → is_joining s e ≡ is_joining t e
 is_joining-same s t e h = ap not (joined_below-same s t e.rank e.u e.v h)
@@ -43,9 +42,10 @@ is_joining-same s t e h = ap not (joined_below-same s t e.rank e.u e.v h)
 -- the sorted lists of one set are one
 pub in_order-same : (s t : EdgeList) → AreApart s → AreApart t → IsSameSet s t → in_order s ≡ in_order t
 in_order-same s t hs ht h = rising-same (in_order s) (in_order t) (IsRising-in_order s hs) (IsRising-in_order t ht)
-    (record
-      { on = λ e i. (IsSameSet-in_order t).on e (h.on e ((IsSameSet-in_order s).back e i))
-      ; back = λ e i. (IsSameSet-in_order s).on e (h.back e ((IsSameSet-in_order t).back e i)) })
+    (record {
+      on = λ e i. (IsSameSet-in_order t).on e (h.on e ((IsSameSet-in_order s).back e i));
+      back = λ e i. (IsSameSet-in_order s).on e (h.back e ((IsSameSet-in_order t).back e i));
+    })
 
 -- filters by tests that agree keep the same
 pub filter-agree : (p q : ListedEdge → Bool) (s : EdgeList) → ((e : ListedEdge) → p e ≡ q e) → filter p s ≡ filter q s

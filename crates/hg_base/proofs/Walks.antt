@@ -1,17 +1,17 @@
 -- The test `joined` and walks say the same.
-use Rattle.std.proofs.Common.{◌≡◌, ℕ, Bool, true, false, ◌⊎◌, inl, inr, refl, sym, subst, arith, List, [], ◌∷◌}
+use Rattle.std.proofs.Common.{◌≡◌, ℕ, true, inl, inr, refl, sym, subst, List, [], ◌∷◌}
 use Rattle.std.specs.Prelude.{◌↔◌}
 use Rattle.std.proofs.lemmas.Bool.{eqb-true, eq-eqb}
-use Rattle.hg_base.specs.Edges.{ListedEdge, EdgeList, IsIn, AreEnds, IsWalk, Joined, joined, link}
-use Rattle.hg_base.proofs.Link.{IsSame, link-old, link_cases, link-over, link-back, IsSame-link}
+use Rattle.hg_base.specs.Edges.{ListedEdge, EdgeList, IsIn, AreEnds, IsWalk, Joined, joined}
+use Rattle.hg_base.proofs.Link.{IsSame, link-old, link_cases, link-over, IsSame-link}
 
 -- each vertex is itself
 IsSame-nothing : IsSame (joined [])
-IsSame-nothing = record
-  { self = λ x. eq-eqb x x refl
-  ; back = λ x y h. eq-eqb y x (sym (eqb-true x y h))
-  ; on = λ x y z h k. subst (λ (w : ℕ). joined [] x w ≡ true) (eqb-true y z k) h
-  }
+IsSame-nothing = record {
+  self = λ x. eq-eqb x x refl;
+  back = λ x y h. eq-eqb y x (sym (eqb-true x y h));
+  on = λ x y z h k. subst (λ (w : ℕ). joined [] x w ≡ true) (eqb-true y z k) h;
+}
 
 -- the test of `Joined` is an equivalence
 pub IsSame-joined : (s : EdgeList) → IsSame (joined s)
@@ -23,7 +23,7 @@ pub joined-ends : (s : EdgeList) (e : ListedEdge) → IsIn e s → joined s e.u 
 joined-ends [] e i = absurd i
 joined-ends (f ∷ s) e (inl same) =
     subst (λ (g : ListedEdge). joined (f ∷ s) g.u g.v ≡ true) same
-      (link-over (joined s) f.u f.v f.u f.v ((IsSame-joined s).self f.u) ((IsSame-joined s).self f.v))
+    (link-over (joined s) f.u f.v f.u f.v ((IsSame-joined s).self f.u) ((IsSame-joined s).self f.v))
 joined-ends (f ∷ s) e (inr later) = link-old (joined s) f.u f.v e.u e.v (joined-ends s e later)
 
 -- a step of a walk joins
@@ -32,7 +32,7 @@ joined-step s e x y i (inl ends) =
     subst (λ (a : ℕ). joined s a y ≡ true) ends.0 (subst (λ (b : ℕ). joined s e.u b ≡ true) ends.1 (joined-ends s e i))
 joined-step s e x y i (inr ends) =
     (IsSame-joined s).back y x
-      (subst (λ (a : ℕ). joined s a x ≡ true) ends.1 (subst (λ (b : ℕ). joined s e.u b ≡ true) ends.0 (joined-ends s e i)))
+    (subst (λ (a : ℕ). joined s a x ≡ true) ends.1 (subst (λ (b : ℕ). joined s e.u b ≡ true) ends.0 (joined-ends s e i)))
 
 -- where a walk leads, the test says so
 pub joined-walk : (s : EdgeList) (x : ℕ) (zs : List ℕ) (y : ℕ) → IsWalk s x zs y → joined s x y ≡ true
@@ -55,19 +55,19 @@ Joined-on s x (a ∷ zs) y z w j =
 Joined-over : (f : ListedEdge) (s : EdgeList) (x a b y : ℕ) → AreEnds f a b → Joined s x a → Joined s b y → Joined (f ∷ s) x y
 Joined-over f s x a b y ends to on =
     Joined-on (f ∷ s) x to.0 a y (walk-more f s x to.0 a to.1)
-      (b ∷ on.0, ((f, (inl refl, ends)), walk-more f s b on.0 y on.1))
+    (b ∷ on.0, ((f, (inl refl, ends)), walk-more f s b on.0 y on.1))
 
 -- where the test says so, a walk leads
 pub Joined-joined : (s : EdgeList) (x y : ℕ) → joined s x y ≡ true → Joined s x y
 Joined-joined [] x y h = ([], eqb-true x y h)
 Joined-joined (f ∷ s) x y h =
-    elim (link_cases (joined s) f.u f.v x y h)
-      [ inl old ↦ (let w = Joined-joined s x y old in (w.0, walk-more f s x w.0 y w.1))
-      | inr new ↦ elim new
-          [ inl p ↦ Joined-over f s x f.u f.v y (inl (refl, refl)) (Joined-joined s x f.u p.0) (Joined-joined s f.v y p.1)
-          | inr p ↦ Joined-over f s x f.v f.u y (inr (refl, refl)) (Joined-joined s x f.v p.0) (Joined-joined s f.u y p.1)
-          ]
+    elim (link_cases (joined s) f.u f.v x y h) [
+      | inl old ↦ (let w = Joined-joined s x y old in (w.0, walk-more f s x w.0 y w.1))
+      | inr new ↦ elim new [
+        | inl p ↦ Joined-over f s x f.u f.v y (inl (refl, refl)) (Joined-joined s x f.u p.0) (Joined-joined s f.v y p.1)
+        | inr p ↦ Joined-over f s x f.v f.u y (inr (refl, refl)) (Joined-joined s x f.v p.0) (Joined-joined s f.u y p.1)
       ]
+    ]
 
 -- the test is true exactly where a walk leads
 pub joined_is_Joined : (s : EdgeList) (x y : ℕ) → (joined s x y ≡ true) ↔ Joined s x y

@@ -1,7 +1,6 @@
 -- Graphs: vertices 0 to n - 1 with areas, and a list of edges with weights. An edge's number is its place in the list.
-use Rattle.std.specs.Prelude.{◌≡◌, ◌≢◌, ℕ, ◌<◌, ◌≤◌, List, length, replicate, All, Some, None, Option, Vec, slice_get}
+use Rattle.std.specs.Prelude.{◌≡◌, ◌≢◌, ℕ, ◌<◌, ◌≤◌, List, length, replicate, All, slice_get}
 use Rattle.std.specs.Option.{option_map_or}
-use Rattle.std.specs.declared.alloc.Global.{Global}
 use Rattle.hg_base.specs.declared.graph.Edge.{Edge}
 
 -- a graph as contracts see it

@@ -1,5 +1,5 @@
 -- Lowest common ancestors and saliencies.
-use Rattle.std.specs.Prelude.{◌≡◌, ◌⊎◌, ℕ, ◌<◌, ◌≤◌, filter, nat_le}
+use Rattle.std.specs.Prelude.{ℕ, ◌<◌, ◌≤◌, filter, nat_le}
 use Rattle.hg_base.specs.Graph.{WeightedGraph, first_end, second_end}
 use Rattle.hg_base.specs.Edges.{ListedEdge, EdgeList, IsIn, Joined, below}
 use Rattle.hg_base.specs.Rank.{ranked}

@@ -1,6 +1,6 @@
 -- What one more edge of any rank does to the chains of a list.
 use Rattle.std.specs.Prelude.{ℕ, ◌<◌, ◌⊎◌, Option, Some, None}
-use Rattle.hg_base.specs.Edges.{ListedEdge, EdgeList, IsIn, Joined, below}
+use Rattle.hg_base.specs.Edges.{ListedEdge, EdgeList, Joined, below}
 use Rattle.hg_base.specs.Saliency.{MeetFirst}
 
 -- e leads out of the component of x: the edges of lower rank join x to one of its ends

@@ -1,5 +1,5 @@
 -- The binary partition tree by altitude of an edge list, and what it has to do with the components of the fronts.
-use Rattle.std.specs.Prelude.{◌≡◌, ◌≢◌, ◌↔◌, ℕ, zero, suc, ◌+◌, ◌<◌, ◌≤◌, List, ◌++◌, length, map, replicate, Option, Some, None, unwrap_or, slice_get}
+use Rattle.std.specs.Prelude.{◌≡◌, ◌↔◌, ℕ, zero, suc, ◌+◌, ◌<◌, List, ◌++◌, length, map, replicate, Option, Some, None, unwrap_or, slice_get}
 use Rattle.std.specs.List.{range_with_len}
 use Rattle.hg_base.specs.Graph.{WeightedGraph}
 use Rattle.hg_base.specs.Edges.{ListedEdge, EdgeList, Joined, below, joins, next}
@@ -42,12 +42,12 @@ node_or n s i (Some e) = n + place s e
 -- The tree of an edge list over n vertices: one inner node for each joining edge, in order of rank. The parent
 -- of a leaf is made by the first edge of its chain, and that of an inner node by the edge after its own.
 abbrev pub tree_of : ℕ → EdgeList → ParentTree
-tree_of n s = record
-  { leaves = n
-  ; parents = map (λ x. node_or n s x (next s x 0)) (range_with_len 0 n) ++ map (λ e. node_or n s (n + place s e) (next s e.u (suc e.rank))) (joins s)
-  ; altitudes = replicate n 0 ++ map (λ e. e.weight) (joins s)
-  ; makers = map (λ e. e.number) (joins s)
-  }
+tree_of n s = record {
+  leaves = n;
+  parents = map (λ x. node_or n s x (next s x 0)) (range_with_len 0 n) ++ map (λ e. node_or n s (n + place s e) (next s e.u (suc e.rank))) (joins s);
+  altitudes = replicate n 0 ++ map (λ e. e.weight) (joins s);
+  makers = map (λ e. e.number) (joins s);
+}
 
 -- the tree of a graph
 abbrev pub graph_tree : WeightedGraph → ParentTree

@@ -1,7 +1,7 @@
 -- Small graphs for worked examples.
 use Rattle.std.specs.Prelude.{ℕ, List, map}
 use Rattle.hg_base.specs.declared.graph.Edge.{Edge}
-use Rattle.hg_base.specs.Graph.{WeightedGraph, with_unit_areas}
+use Rattle.hg_base.specs.Graph.{with_unit_areas}
 use Rattle.hg_base.specs.Tree.{ParentTree, graph_tree}
 
 abbrev pub edge : (ℕ × ℕ × ℕ) → Edge

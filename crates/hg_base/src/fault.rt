@@ -1,8 +1,6 @@
 ghost use Rattle.std.specs.Prelude.{◌≡◌};
 ghost use Rattle.hg_base.specs.Fault.{number_of};
 
-use std::alloc::{AllocError, AllocFailed};
-
 /// A read or a write of the outside failed.
 #[derive(Clone, Copy, Debug, PartialEq, Eq)]
 pub struct Failed;

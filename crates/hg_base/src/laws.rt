@@ -1,9 +1,98 @@
 //! Laws of the definitions. Each is the contract of a function that does nothing.
-ghost use Rattle.std.specs.Prelude.{◌↔◌, ℕ, IsTrue};
-ghost use Rattle.hg_base.specs.Edges.{EdgeList, Joined, joined};
+ghost use Rattle.std.specs.Prelude.{◌≡◌, ◌↔◌, ◌⊎◌, ℕ, suc, ◌+◌, ◌<◌, ◌≤◌, ◌∷◌, length, Option, Some, IsTrue};
+ghost use Rattle.hg_base.specs.Graph.{WeightedGraph, IsGraph, first_end, second_end};
+ghost use Rattle.hg_base.specs.Edges.{ListedEdge, EdgeList, IsIn, IsSameSet, AreApart, AreWithin, Joined, joined, below, joins, chain, next, merged, components, ShareBelow, renamed, IsOneToOne};
+ghost use Rattle.hg_base.specs.Rank.{rank, listed, ranked};
+ghost use Rattle.hg_base.specs.Tree.{ParentTree, altitude, IsAbove, IsFrontTree, tree_of, graph_tree, place};
+ghost use Rattle.hg_base.specs.Saliency.{IsLowestAbove, IsSaliency, MeetFirst};
+ghost use Rattle.hg_base.specs.Splice.{IsRedundant, LeadsOut, ComesAfter, IsAtEnd};
 
 /// The test `joined` says exactly where a walk through the edges of the list leads.
 pub fn joined_by_walks()
     ensures { (s : EdgeList) (x y : ℕ) → IsTrue (joined s x y) ↔ Joined s x y }
-{
-}
+{}
+
+/// Being joined is an equivalence, grows with the set of edges, and depends on that set alone.
+pub fn joined_is_an_equivalence()
+    ensures itself { (s : EdgeList) (x : ℕ) → Joined s x x }
+    ensures back { (s : EdgeList) (x y : ℕ) → Joined s x y → Joined s y x }
+    ensures on { (s : EdgeList) (x y z : ℕ) → Joined s x y → Joined s y z → Joined s x z }
+    ensures grows { (s t : EdgeList) (x y : ℕ) → ((e : ListedEdge) → IsIn e s → IsIn e t) → Joined s x y → Joined t x y }
+    ensures by_set { (s t : EdgeList) (x y : ℕ) → IsSameSet s t → (Joined s x y ↔ Joined t x y) }
+{}
+
+/// The joining edges and the chains depend on the set of edges alone.
+pub fn chains_by_the_set_of_edges()
+    ensures joining { (s t : EdgeList) → AreApart s → AreApart t → IsSameSet s t → joins s ≡ joins t }
+    ensures chains { (s t : EdgeList) (x : ℕ) → AreApart s → AreApart t → IsSameSet s t → chain s x ≡ chain t x }
+{}
+
+/// Other names for the vertices, no two with one name, change the joining edges and the chains by the names alone.
+pub fn chains_under_other_names()
+    ensures joining { (n : ℕ) (f : ℕ → ℕ) (s : EdgeList) → IsOneToOne n f → AreWithin n s → joins (renamed f s) ≡ renamed f (joins s) }
+    ensures chains { (n : ℕ) (f : ℕ → ℕ) (s : EdgeList) (x : ℕ) → IsOneToOne n f → AreWithin n s → x < n → chain (renamed f s) (f x) ≡ renamed f (chain s x) }
+{}
+
+/// The edges of rank below `k` join two vertices exactly where they are one or their chains share an edge of rank below `k`.
+pub fn joined_where_chains_meet()
+    ensures { (s : EdgeList) (k x y : ℕ) → AreApart s → (Joined (below s k) x y ↔ ((x ≡ y) ⊎ ShareBelow s k x y)) }
+{}
+
+/// What joins and what the chains are after one more edge `e` of any rank. Where its ends were joined by edges of
+/// lower rank it changes nothing. Else it joins, and of the others the one that first joined its ends, if there is
+/// one, joins no more.
+pub fn one_more_edge()
+    ensures redundant { (e : ListedEdge) (s : EdgeList) → AreApart (e ∷ s) → IsRedundant e s →
+        (joins (e ∷ s) ≡ joins s) × ((x : ℕ) → chain (e ∷ s) x ≡ chain s x) }
+    ensures joins_itself { (e : ListedEdge) (s : EdgeList) → ¬ IsRedundant e s → IsIn e (joins (e ∷ s)) }
+    ensures replaces { (e f : ListedEdge) (s : EdgeList) → AreApart (e ∷ s) → ¬ IsRedundant e s → IsIn f s →
+        (IsIn f (joins (e ∷ s)) ↔ (IsIn f (joins s) × ¬ MeetFirst s e.u e.v f)) }
+{}
+
+/// The splice: which edge comes next on the chain of a vertex from rank `k` on, after one more edge `e`.
+pub fn splice()
+    // What came before e still does.
+    ensures before { (e f : ListedEdge) (s : EdgeList) (x k : ℕ) → AreApart (e ∷ s) → next s x k ≡ Some f → f.rank < e.rank →
+        next (e ∷ s) x k ≡ Some f }
+    // Then e comes, where it leads out of the component of x ..
+    ensures at { (e : ListedEdge) (s : EdgeList) (x k : ℕ) → AreApart (e ∷ s) → k ≤ e.rank → ComesAfter (next s x k) e.rank → LeadsOut s x e →
+        next (e ∷ s) x k ≡ Some e }
+    // .. and is passed over where it doesn't.
+    ensures past { (e : ListedEdge) (s : EdgeList) (x k : ℕ) → AreApart (e ∷ s) → k ≤ e.rank → ComesAfter (next s x k) e.rank → ¬ LeadsOut s x e →
+        next (e ∷ s) x k ≡ next (e ∷ s) x (suc e.rank) }
+    // Above e nothing changes for a vertex at neither end, nor once the ends are joined.
+    ensures elsewhere { (e : ListedEdge) (s : EdgeList) (x k : ℕ) → AreApart (e ∷ s) → e.rank < k → ¬ IsAtEnd e s k x →
+        next (e ∷ s) x k ≡ next s x k }
+    ensures united { (e : ListedEdge) (s : EdgeList) (x k : ℕ) → AreApart (e ∷ s) → e.rank < k → Joined (below s k) e.u e.v →
+        next (e ∷ s) x k ≡ next s x k }
+    // Until then the chains of both ends are merged into one.
+    ensures merging { (e : ListedEdge) (s : EdgeList) (x k : ℕ) → AreApart (e ∷ s) → e.rank < k → ¬ Joined (below s k) e.u e.v → IsAtEnd e s k x →
+        next (e ∷ s) x k ≡ merged s (next s e.u k) (next s e.v k) }
+{}
+
+/// Joining edges and components add up to the number of vertices.
+pub fn joining_edges_and_components()
+    ensures { (n : ℕ) (s : EdgeList) → AreApart s → AreWithin n s → length (joins s) + components n s ≡ n }
+{}
+
+/// The vertex sets of the nodes of the tree are exactly the components of the fronts, each once. A leaf has
+/// altitude 0, and another node the weight of the edge that made it.
+pub fn tree_is_a_front_tree()
+    ensures nodes { (n : ℕ) (s : EdgeList) → AreApart s → AreWithin n s → IsFrontTree (tree_of n s) n s }
+    ensures leaf_altitudes { (n x : ℕ) (s : EdgeList) → x < n → altitude (tree_of n s) x ≡ 0 }
+    ensures inner_altitudes { (n : ℕ) (s : EdgeList) (e : ListedEdge) → AreApart s → IsIn e (joins s) →
+        altitude (tree_of n s) (n + place s e) ≡ e.weight }
+{}
+
+/// The saliency of an edge is the altitude of the lowest common ancestor of its ends.
+pub fn saliency_is_an_altitude()
+    ensures { (g : WeightedGraph) (e i : ℕ) → IsGraph g → e < length g.edges →
+        IsLowestAbove (graph_tree g) (first_end g e) (second_end g e) i → IsSaliency g e (altitude (graph_tree g) i) }
+{}
+
+/// The ranked edges of a graph have different ranks, and their ends are vertices; each edge is there at its rank.
+pub fn ranked_edges()
+    ensures apart { (g : WeightedGraph) → AreApart (ranked g) }
+    ensures within { (g : WeightedGraph) → IsGraph g → AreWithin g.n (ranked g) }
+    ensures each { (g : WeightedGraph) (e : ℕ) → e < length g.edges → IsIn (listed g (rank g e) e) (ranked g) }
+{}

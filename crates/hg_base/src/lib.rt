@@ -5,12 +5,12 @@ mod fault;
 mod gate;
 mod graph;
 pub mod laws;
-mod text;
-#[cfg(test)]
-mod worked;
 mod memory;
 mod outside;
 mod standard;
+mod text;
+#[cfg(test)]
+mod worked;
 
 pub use fault::{Failed, FaultKind, InputFault, OutOfMemory, ReadError};
 pub use gate::{Gate, GateEvent, OpenGate};

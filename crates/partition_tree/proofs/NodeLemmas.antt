@@ -1,5 +1,5 @@
 -- Passes over the nodes in order of number.
-use Rattle.std.proofs.Common.{◌≡◌, ℕ, zero, suc, ◌+◌, ◌≤◌, Bool, true, false, cond, List, [], ◌∷◌, ◌++◌, Option, Some, None, refl, sym, ◌∙◌, ap, subst, arith, add-one, append_assoc, append-nil}
+use Rattle.std.proofs.Common.{◌≡◌, ℕ, zero, suc, ◌+◌, ◌≤◌, Bool, true, false, cond, List, [], ◌∷◌, ◌++◌, Option, Some, ◌∙◌, ap, arith, add-one, append_assoc, append-nil}
 use Rattle.std.specs.Prelude.{count_by, IfSome, slice_set}
 use Rattle.hg_base.specs.Text.{line}
 use Rattle.hg_base.specs.Tree.{ParentTree, parent, altitude}
@@ -11,11 +11,6 @@ use Rattle.std.specs.List.{range_with_len, flat_map}
 use Rattle.std.proofs.lemmas.List.Sums.{sum_by-append, count_by-le-length}
 use Rattle.std.proofs.lemmas.List.Concat.{flat_map-append}
 use Rattle.std.proofs.lemmas.List.FromFn.{length-range_with_len}
-
--- what holds of the number in an answer
-pub in_answer : (o : Option ℕ) (x : ℕ) (P : ℕ → Type 0) → IfSome o P → o ≡ Some x → P x
-in_answer None x P h e = cc
-in_answer (Some y) x P h e = let s : y ≡ x = cc in subst P s h
 
 -- one more number at the end of a range
 pub range_with_len-suc : (a n : ℕ) → range_with_len a (suc n) ≡ range_with_len a n ++ (a + n) ∷ []

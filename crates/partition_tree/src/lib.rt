@@ -9,3 +9,6 @@ mod tree;
 pub use list::Ranked;
 pub use report::write_tree;
 pub use tree::Tree;
+
+#[cfg(test)]
+mod tests;

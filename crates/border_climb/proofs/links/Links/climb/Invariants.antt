@@ -1,4 +1,4 @@
-use Rattle.std.proofs.Common.{◌≡◌, ℕ, ◌-◌, ◌^◌, Option, Some, None}
+use Rattle.std.proofs.Common.{ℕ, ◌-◌, ◌^◌, Option, Some, None}
 use Rattle.std.specs.Option.{ForSome}
 use Rattle.border_climb.specs.declared.links.Met.{Met}
 use Rattle.border_climb.specs.Slots.{IsMet}

@@ -1,7 +1,6 @@
-use Rattle.std.proofs.Common.{◌≡◌, ℕ, ◌<◌, ◌∙◌, sym, true}
+use Rattle.std.proofs.Common.{◌≡◌, ◌<◌, ◌∙◌, sym, true}
 use Rattle.std.specs.Prelude.{slice_get}
 use Rattle.border_climb.specs.Slots.{is_used, slot_rank}
-use Rattle.border_climb.specs.Chains.{rank_of}
 use Rattle.border_climb.proofs.ViewLemmas.{above_in_view, rank_in_view, used_in_view, used_from_view, some_in_words}
 use Rattle.border_climb.proofs.part.Part.up_of_cell.Goals as goal
 

@@ -1,6 +1,5 @@
-use Rattle.std.proofs.Common.{◌≡◌, ℕ, ◌<◌, ◌∙◌, sym, length, true, arith, None}
+use Rattle.std.proofs.Common.{◌≡◌, ◌<◌, ◌∙◌, sym, length, true, None}
 use Rattle.std.specs.Prelude.{slice_get}
-use Rattle.border_climb.specs.Chains.{IsUsed}
 use Rattle.border_climb.specs.Slots.{is_used}
 use Rattle.border_climb.proofs.ViewLemmas.{covered_within, place_in_view, used_in_view, some_in_words}
 use Rattle.border_climb.proofs.part.Part.up_of_place.Goals as goal

@@ -11,11 +11,11 @@ overflow_add-roots c = omega (arith, c.loop-i.invariant, count_fits (λ i. paren
 
 pub loop-i-preserved : goal.loop-i-preserved
 loop-i-preserved c =
-    elim c.if-parent-i.branch
-      [ then-parent-i w ↦
+    elim c.if-parent-i.branch [
+      | then-parent-i w ↦
           w.roots-is ∙ count_more_yes (λ i. parent c.args.self.now i == i) c.loop-i.i c.loop-i.roots c.loop-i.invariant
           (eq-eqb (parent c.args.self.now c.loop-i.i) c.loop-i.i (sym c.parent.ensures.value ∙ w.if-parent-i.true))
       | else-parent-i w ↦
           w.roots-is ∙ count_more_no (λ i. parent c.args.self.now i == i) c.loop-i.i c.loop-i.roots c.loop-i.invariant
           (ne_eqb (parent c.args.self.now c.loop-i.i) c.loop-i.i (λ e. w.if-parent-i.false (c.parent.ensures.value ∙ e)))
-      ]
+    ]

@@ -1,0 +1,83 @@
+-- The laws in the words of the definitions: walks in place of tests.
+use Rattle.std.proofs.Common.{◌≡◌, ℕ, ◌<◌, true, false, ◌⊎◌, inl, inr, refl, sym, ◌∙◌, ◌∷◌, length}
+use Rattle.std.specs.Prelude.{◌↔◌, ◌||◌}
+use Rattle.std.proofs.lemmas.Bool.{or_left, or_right, true≢false}
+use Rattle.hg_base.specs.Graph.{WeightedGraph, IsGraph, first_end, second_end}
+use Rattle.hg_base.specs.Edges.{ListedEdge, EdgeList, IsIn, AreApart, Joined, joined, below, next, merged, ShareBelow}
+use Rattle.hg_base.specs.Rank.{ranked}
+use Rattle.hg_base.specs.Tree.{altitude, graph_tree}
+use Rattle.hg_base.specs.Saliency.{IsLowestAbove, IsSaliency}
+use Rattle.hg_base.specs.Splice.{LeadsOut, IsAtEnd}
+use Rattle.hg_base.proofs.Walks.{IsSame-joined, Joined-joined}
+use Rattle.hg_base.proofs.Sets.{same_test, walk-among, IsIn-chain, IsIn-chain_kept}
+use Rattle.hg_base.proofs.Fronts.{MeetBelow, joined-meet, meet-joined}
+use Rattle.hg_base.proofs.Leaving.{leaves, xor_cases}
+use Rattle.hg_base.proofs.Splice.{next-elsewhere}
+use Rattle.hg_base.proofs.Merged.{next-merged}
+use Rattle.hg_base.proofs.Meeting.{lowest-weight}
+use Rattle.hg_base.proofs.Drops.{untrue, holds}
+use Rattle.hg_base.proofs.Ranked.{AreApart-ranked, AreByWeight-ranked, ends-within}
+
+pub Joined-back : (s : EdgeList) (x y : ℕ) → Joined s x y → Joined s y x
+Joined-back s x y j = Joined-joined s y x ((IsSame-joined s).back x y (holds s x y j))
+
+pub Joined-through : (s : EdgeList) (x y z : ℕ) → Joined s x y → Joined s y z → Joined s x z
+Joined-through s x y z j k = Joined-joined s x z ((IsSame-joined s).on x y z (holds s x y j) (holds s y z k))
+
+pub Joined-among : (s t : EdgeList) (x y : ℕ) → ((e : ListedEdge) → IsIn e s → IsIn e t) → Joined s x y → Joined t x y
+Joined-among s t x y more j = (j.0, walk-among s t more x j.0 y j.1)
+
+-- a test that is false is of a fact that doesn't hold
+pub not-Joined : (s : EdgeList) (x y : ℕ) → joined s x y ≡ false → Joined s x y → ⊥
+not-Joined s x y h j = true≢false (sym (holds s x y j) ∙ h)
+
+-- what `leaves` tests
+pub leaves-from : (s : EdgeList) (x : ℕ) (e : ListedEdge) → LeadsOut s x e → leaves s x e ≡ true
+leaves-from s x e (inl p) = rw (holds (below s e.rank) x e.u p.0, untrue (below s e.rank) x e.v p.1) refl
+leaves-from s x e (inr p) = rw (holds (below s e.rank) x e.v p.0, untrue (below s e.rank) x e.u p.1) refl
+
+pub LeadsOut-from : (s : EdgeList) (x : ℕ) (e : ListedEdge) → leaves s x e ≡ true → LeadsOut s x e
+LeadsOut-from s x e h =
+    elim (xor_cases (joined (below s e.rank) x e.u) (joined (below s e.rank) x e.v) h) [
+      | inl p ↦ inl (Joined-joined (below s e.rank) x e.u p.0, not-Joined (below s e.rank) x e.v p.1)
+      | inr p ↦ inr (Joined-joined (below s e.rank) x e.v p.1, not-Joined (below s e.rank) x e.u p.0)
+    ]
+
+-- an edge that doesn't lead out doesn't leave
+pub stays-from : (s : EdgeList) (x : ℕ) (e : ListedEdge) → (LeadsOut s x e → ⊥) → leaves s x e ≡ false
+stays-from s x e h = same_test (leaves s x e) false (λ k. absurd (h (LeadsOut-from s x e k))) (λ k. absurd (true≢false (sym k)))
+
+-- the two forms of "the chains share an edge"
+pub shared-from : (s : EdgeList) (k x y : ℕ) → (x ≡ y) ⊎ MeetBelow s k x y → (x ≡ y) ⊎ ShareBelow s k x y
+shared-from s k x y (inl same) = inl same
+shared-from s k x y (inr m) = inr (m.edge, (IsIn-chain s x m.edge m.first, (IsIn-chain s y m.edge m.second, m.low)))
+
+pub met-from : (s : EdgeList) (k x y : ℕ) → (x ≡ y) ⊎ ShareBelow s k x y → (x ≡ y) ⊎ MeetBelow s k x y
+met-from s k x y (inl same) = inl same
+met-from s k x y (inr m) = inr (record { edge = m.0; first = IsIn-chain_kept s x m.0 m.1.0; second = IsIn-chain_kept s y m.0 m.1.1.0; low = m.1.1.1 })
+
+pub meets-where_joined : (s : EdgeList) (k x y : ℕ) → AreApart s → (Joined (below s k) x y ↔ ((x ≡ y) ⊎ ShareBelow s k x y))
+meets-where_joined s k x y h = (
+  λ j. shared-from s k x y (joined-meet s h k x y (holds (below s k) x y j)),
+  λ m. Joined-joined (below s k) x y (meet-joined s k x y (met-from s k x y m)),
+)
+
+pub splice-elsewhere : (e : ListedEdge) (s : EdgeList) (x k : ℕ) → AreApart (e ∷ s) → e.rank < k → (IsAtEnd e s k x → ⊥) → next (e ∷ s) x k ≡ next s x k
+splice-elsewhere e s x k h lt out =
+    next-elsewhere e s h x k lt
+    (untrue (below s k) x e.u (λ j. out (inl j))) (untrue (below s k) x e.v (λ j. out (inr j)))
+
+at_end-from : (e : ListedEdge) (s : EdgeList) (k x : ℕ) → IsAtEnd e s k x → (joined (below s k) x e.u || joined (below s k) x e.v) ≡ true
+at_end-from e s k x (inl j) = or_left _ _ (holds (below s k) x e.u j)
+at_end-from e s k x (inr j) = or_right _ _ (holds (below s k) x e.v j)
+
+pub splice-merging : (e : ListedEdge) (s : EdgeList) (x k : ℕ) → AreApart (e ∷ s) → e.rank < k → (Joined (below s k) e.u e.v → ⊥) → IsAtEnd e s k x →
+    next (e ∷ s) x k ≡ merged s (next s e.u k) (next s e.v k)
+splice-merging e s x k h lt apart at_end =
+    next-merged e s x k (record { apart = h; above = lt; unjoined = untrue (below s k) e.u e.v apart; at_end = at_end-from e s k x at_end })
+
+pub saliency-lowest : (g : WeightedGraph) (e i : ℕ) → IsGraph g → e < length g.edges → IsLowestAbove (graph_tree g) (first_end g e) (second_end g e) i →
+    IsSaliency g e (altitude (graph_tree g) i)
+saliency-lowest g e i h lt low =
+    let ends = ends-within g h e lt in
+    lowest-weight g.n (ranked g) (AreApart-ranked g) (AreByWeight-ranked g) (first_end g e) (second_end g e) i ends.0 ends.1 low

@@ -1,0 +1,14 @@
+//! A plain and slow program that computes reports straight from the definitions, for small inputs: it counts
+//! to find a rank, spreads marks over edges to find who is joined, and looks at each edge for each vertex.
+//! It shares no code with the program and follows none of its ways. Its tests compare it with worked inputs
+//! and outputs, so they check that the definitions say what is meant.
+#![tactic(auto)]
+
+mod edge_list;
+mod hierarchy;
+mod report;
+
+pub use report::tree_report;
+
+#[cfg(test)]
+mod tests;

@@ -1,11 +1,11 @@
 -- The weights of a graph's edges don't fall in order of rank.
-use Rattle.std.proofs.Common.{◌≡◌, ℕ, ◌<◌, ◌≤◌, inl, inr, true, List, length, map, get_or, sym, ap, ◌∙◌, subst, arith}
+use Rattle.std.proofs.Common.{◌≡◌, ℕ, ◌<◌, ◌≤◌, inl, inr, true, List, length, get_or, sym, ap, ◌∙◌, subst, arith}
 use Rattle.std.proofs.lemmas.Bool.{cases_lt, lt-ltb, or_left}
 use Rattle.std.proofs.lemmas.List.{get_or-map, length-map}
 use Rattle.std.proofs.lemmas.List.FromFn.{length-map-range_with_len, get_or-map-range_with_len}
 use Rattle.std.specs.List.Sorted.{IsNonDecreasingBy}
 use Rattle.hg_base.specs.Graph.{WeightedGraph, weight}
-use Rattle.hg_base.specs.Rank.{comes_before, rank, number_at, listed, ranked}
+use Rattle.hg_base.specs.Rank.{comes_before, number_at, listed, ranked}
 use Rattle.hg_base.proofs.Ranks.{number_at-below, rank-lt, rank-number_at}
 use Rattle.partition_tree.specs.declared.list.Ranked.{Ranked}
 use Rattle.higra_cli.specs.Ordered.{altitude, tree_edge, tree_edges}

@@ -1,5 +1,5 @@
 -- What the ends of a run come to.
-use Rattle.std.proofs.Common.{◌≡◌, ℕ, ◌≤◌, List, length, take, take_all, Option, Result, Ok, Err, OnOk, OnErr, sym, subst, arith}
+use Rattle.std.proofs.Common.{◌≡◌, ℕ, ◌≤◌, List, length, take_all, Option, Result, Ok, Err, OnOk, OnErr, sym, subst, arith}
 use Rattle.std.specs.Io.KnownBytes.{Appends}
 use Rattle.hg_base.specs.Outside.{AppendsPrefix}
 

@@ -1,5 +1,5 @@
 -- What feeding a source to a decoder comes to.
-use Rattle.std.specs.Prelude.{◌≡◌, ℕ, ◌≤◌, List, length, Option, Result, Ok, Err}
+use Rattle.std.specs.Prelude.{◌≡◌, ℕ, ◌≤◌, List, length, Result, Ok, Err}
 use Rattle.std.specs.Io.KnownBytes.{Consumes, IsAtEnd}
 use Rattle.hg_base.specs.Graph.{WeightedGraph}
 use Rattle.hg_base.specs.Outside.{Rose}

@@ -1,6 +1,5 @@
 -- What a run leaves behind, by how it ended.
-use Rattle.std.specs.Prelude.{◌≡◌, ◌⊎◌, ℕ, ◌-◌, ◌^◌, ◌<◌, ◌≤◌, List, length, Option, Some, None, Result, MatchResult}
-use Rattle.std.specs.Io.KnownBytes.{Appends}
+use Rattle.std.specs.Prelude.{◌≡◌, ◌⊎◌, ℕ, ◌-◌, ◌^◌, ◌<◌, ◌≤◌, List, Option, Some, None, Result, MatchResult}
 use Rattle.hg_base.specs.Outside.{Rose, AppendsPrefix}
 use Rattle.higra_cli.specs.Reading.{Told, GaveEdgeList, IsFor, answer_of}
 use Rattle.higra_cli.specs.Request.{request_by}

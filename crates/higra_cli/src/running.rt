@@ -2,6 +2,7 @@
 ghost use Rattle.std.specs.Prelude.{◌≡◌, ◌≢◌, ◌⊎◌, ◌<◌, ℕ, List, Some, None, IfErr};
 ghost use Rattle.std.specs.Io.KnownBytes.{Appends};
 ghost use Rattle.hg_base.specs.Outside.{AppendsPrefix, Rose};
+ghost use Rattle.hg_base.specs.declared.fault.InputFault.{InputFault};
 ghost use Rattle.higra_cli.specs.Ending.{fault_line};
 ghost use Rattle.higra_cli.specs.Reading.{GaveAtMost, GaveEdgeList, IsFor, told};
 ghost use Rattle.higra_cli.specs.Request.{request_by};
@@ -41,7 +42,7 @@ pub fn run<S: Source, K: Sink, E: Sink, G: Gate>(
     ensures most { GaveAtMost 134217729 (S.left source.old) (S.left source.new) }
     ensures read_failed { result ≡ Status.ReadFailed → Rose (S.faults source.old) (S.faults source.new) }
     ensures read_fault { S.faults source.old < S.faults source.new → (result ≡ Status.ReadFailed) ⊎ (result ≡ Status.OutOfMemory) }
-    ensures input { (fault : _) → result ≡ Status.Input fault → IsFor (S.left source.old) (Status.Input fault) }
+    ensures input { (fault : InputFault) → result ≡ Status.Input fault → IsFor (S.left source.old) (Status.Input fault) }
     ensures success { result ≡ Status.Success → GaveEdgeList (S.left source.old) (S.left source.new) }
 
     // Where the source tells its bytes and no read fails, the status is the one for these bytes.

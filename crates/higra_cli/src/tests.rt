@@ -26,156 +26,162 @@ fn sink_of(alloc: Global, room: usize, fails: u64) -> Result<MemSink, Fail> {
     Ok(MemSink::with_room(alloc, room, 4, fails)?)
 }
 
+// Runs the words and compares the code, the report and the fault line with what is wanted.
+fn runs<S: Source>(
+    rt: &(impl Threads + Sync + Abort),
+    alloc: Global,
+    words: &[&str],
+    source: &mut S,
+    out: &mut MemSink,
+    err: &mut MemSink,
+    want: (u8, &str, &str),
+) -> Result<(), Fail> {
+    let words = words_of(alloc, words)?;
+    let status = run(rt, alloc, &words, source, out, err, &OpenGate);
+    assert_eq!(rt; status.code(), want.0);
+    assert_eq!(rt; out.taken(), want.1.as_bytes());
+    assert_eq!(rt; err.taken(), want.2.as_bytes());
+    Ok(())
+}
+
+// Runs `tree` on an input, with an outside that is well.
+fn runs_on(
+    rt: &(impl Threads + Sync + Abort),
+    alloc: Global,
+    input: &str,
+    want: (u8, &str, &str),
+) -> Result<(), Fail> {
+    let mut source = source_of(alloc, input, 0)?;
+    let mut out = sink_of(alloc, 100, 0)?;
+    let mut err = sink_of(alloc, 100, 0)?;
+    runs(rt, alloc, &["tree"], &mut source, &mut out, &mut err, want)
+}
+
 #[test]
-fn a_report_or_a_fault_line(rt: HostRuntime) -> Result<(), Fail> {
-    // the input, the code, and what is written: the report for code 0, or the fault line
+fn reports(rt: HostRuntime) -> Result<(), Fail> {
     let rows = [
         (
             "graph 3 2\n0 1 5\n1 2 3\n",
-            0,
             "tree 5 3\n0 4 0\n1 3 0\n2 3 0\n3 4 3\n4 4 5\n",
         ),
-        ("graph 1 0\n", 0, "tree 1 1\n0 0 0\n"),
+        ("graph 1 0\n", "tree 1 1\n0 0 0\n"),
         (
             "graph 3 3\n0 1 1\n1 2 1\n0 2 1\n",
-            0,
             "tree 5 3\n0 3 0\n1 3 0\n2 4 0\n3 4 1\n4 4 1\n",
         ),
         (
             "graph 3 1\n0 1 4\n",
-            0,
             "tree 4 3\n0 3 0\n1 3 0\n2 2 0\n3 3 4\n",
         ),
-        ("graph 2 0\n", 0, "tree 2 2\n0 0 0\n1 1 0\n"),
+        ("graph 2 0\n", "tree 2 2\n0 0 0\n1 1 0\n"),
         (
             "graph 2 1\n0 1 4294967295\n",
-            0,
             "tree 3 2\n0 2 0\n1 2 0\n2 2 4294967295\n",
         ),
         (
             "# roads\ngraph 2 1\r\n0 1 7 # north\r\n",
-            0,
             "tree 3 2\n0 2 0\n1 2 0\n2 2 7\n",
         ),
-        (
-            "graph 3 2\n0 1 5\n1 2",
-            3,
-            "higra: input 4 Truncated at 19 value 0\n",
-        ),
-        (
-            "graph 3 2\n0 1 5\n1 2 3 7\n",
-            3,
-            "higra: input 5 Trailing at 22 value 0\n",
-        ),
-        (
-            "graph 2 1\n0 0 3\n",
-            3,
-            "higra: input 7 Loop at 12 value 0\n",
-        ),
-        (
-            "graph 2 1\n0 2 3\n",
-            3,
-            "higra: input 6 OutOfRange at 12 value 2\n",
-        ),
-        (
-            "graph 1048577 0\n",
-            3,
-            "higra: input 3 TooLarge at 6 value 1048577\n",
-        ),
-        (
-            "graph 2 1\n0 1 4294967296\n",
-            3,
-            "higra: input 3 TooLarge at 14 value 4294967296\n",
-        ),
-        (
-            "graph 2 1\n0 1 12345678901\n",
-            3,
-            "higra: input 2 BadNumber at 14 value 0\n",
-        ),
-        ("grap 3 0\n", 3, "higra: input 1 UnknownForm at 0 value 0\n"),
-        ("", 3, "higra: input 1 UnknownForm at 0 value 0\n"),
-        ("graph 3 x\n", 3, "higra: input 2 BadNumber at 8 value 0\n"),
-        ("graph 0 0\n", 3, "higra: input 8 NoVertex at 6 value 0\n"),
     ];
-    let words = words_of(rt.alloc(), &["tree"])?;
-    for (input, code, written) in rows {
-        let mut source = source_of(rt.alloc(), input, 0)?;
-        let mut out = sink_of(rt.alloc(), 100, 0)?;
-        let mut err = sink_of(rt.alloc(), 100, 0)?;
-        let status = run(
-            &rt,
-            rt.alloc(),
-            &words,
-            &mut source,
-            &mut out,
-            &mut err,
-            &OpenGate,
-        );
-        assert_eq!(rt; status.code(), code, "{input}");
-        let (told, silent) = if code == 0 { (out, err) } else { (err, out) };
-        assert_eq!(rt; told.taken(), written.as_bytes(), "{input}");
-        assert_eq!(rt; silent.taken(), b"".as_slice(), "{input}");
+    for (input, report) in rows {
+        runs_on(&rt, rt.alloc(), input, (0, report, ""))?;
     }
     Ok(())
 }
 
 #[test]
-fn words_that_ask_for_nothing(rt: HostRuntime) -> Result<(), Fail> {
-    let rows: [&[&str]; 3] = [&[], &["forest"], &["tree", "tree"]];
-    for texts in rows {
-        let words = words_of(rt.alloc(), texts)?;
-        assert_eq!(rt; request_of(rt.alloc(), &words), Err(WordsFault::Usage));
-        let mut source = source_of(rt.alloc(), "graph 1 0\n", 0)?;
-        let mut out = sink_of(rt.alloc(), 100, 0)?;
-        let mut err = sink_of(rt.alloc(), 100, 0)?;
-        let status = run(
-            &rt,
-            rt.alloc(),
-            &words,
-            &mut source,
-            &mut out,
-            &mut err,
-            &OpenGate,
-        );
-        assert_eq!(rt; status.code(), 2);
-        assert_eq!(rt; out.taken(), b"".as_slice());
-        assert_eq!(rt; err.taken(), b"higra: usage\n".as_slice());
-        let mut first = [0u8; 8];
-        assert_eq!(rt; source.read(&mut first), Ok(3));
-        assert_eq!(rt; &first[..3], b"gra".as_slice());
+fn faults_of_the_input(rt: HostRuntime) -> Result<(), Fail> {
+    let rows = [
+        (
+            "graph 3 2\n0 1 5\n1 2",
+            "higra: input 4 Truncated at 19 value 0\n",
+        ),
+        (
+            "graph 3 2\n0 1 5\n1 2 3 7\n",
+            "higra: input 5 Trailing at 22 value 0\n",
+        ),
+        ("graph 2 1\n0 0 3\n", "higra: input 7 Loop at 12 value 0\n"),
+        (
+            "graph 2 1\n0 2 3\n",
+            "higra: input 6 OutOfRange at 12 value 2\n",
+        ),
+        (
+            "graph 1048577 0\n",
+            "higra: input 3 TooLarge at 6 value 1048577\n",
+        ),
+        (
+            "graph 2 1\n0 1 4294967296\n",
+            "higra: input 3 TooLarge at 14 value 4294967296\n",
+        ),
+        (
+            "graph 2 1\n0 1 12345678901\n",
+            "higra: input 2 BadNumber at 14 value 0\n",
+        ),
+        ("grap 3 0\n", "higra: input 1 UnknownForm at 0 value 0\n"),
+        ("", "higra: input 1 UnknownForm at 0 value 0\n"),
+        ("graph 3 x\n", "higra: input 2 BadNumber at 8 value 0\n"),
+        ("graph 0 0\n", "higra: input 8 NoVertex at 6 value 0\n"),
+    ];
+    for (input, line) in rows {
+        runs_on(&rt, rt.alloc(), input, (3, "", line))?;
     }
     Ok(())
+}
+
+// Runs words that give no request, and sees that the source is untouched.
+fn asks_for_nothing(
+    rt: &(impl Threads + Sync + Abort),
+    alloc: Global,
+    texts: &[&str],
+) -> Result<(), Fail> {
+    let words = words_of(alloc, texts)?;
+    assert_eq!(rt; request_of(alloc, &words), Err(WordsFault::Usage));
+    let mut source = source_of(alloc, "graph 1 0\n", 0)?;
+    let mut out = sink_of(alloc, 100, 0)?;
+    let mut err = sink_of(alloc, 100, 0)?;
+    let want = (2, "", "higra: usage\n");
+    runs(rt, alloc, texts, &mut source, &mut out, &mut err, want)?;
+    let mut first = [b'.'; 4];
+    assert_eq!(rt; source.read(&mut first), Ok(3));
+    assert_eq!(rt; first.as_slice(), b"gra.".as_slice());
+    Ok(())
+}
+
+#[test]
+fn words_that_give_no_request(rt: HostRuntime) -> Result<(), Fail> {
+    let rows: [&[&str]; 3] = [&[], &["forest"], &["tree", "tree"]];
+    for texts in rows {
+        asks_for_nothing(&rt, rt.alloc(), texts)?;
+    }
+    Ok(())
+}
+
+// Runs `tree` where the read or the write with this number fails, and with so much room for the fault line.
+fn runs_in_part(
+    rt: &(impl Threads + Sync + Abort),
+    alloc: Global,
+    input: &str,
+    fails: (u64, u64, usize),
+    want: (u8, &str, &str),
+) -> Result<(), Fail> {
+    let mut source = source_of(alloc, input, fails.0)?;
+    let mut out = sink_of(alloc, 100, fails.1)?;
+    let mut err = sink_of(alloc, fails.2, 0)?;
+    runs(rt, alloc, &["tree"], &mut source, &mut out, &mut err, want)
 }
 
 #[test]
 fn an_outside_that_fails(rt: HostRuntime) -> Result<(), Fail> {
     let edge_list = "graph 3 2\n0 1 5\n1 2 3\n";
-    // the input, the read and the write that fail, and the room for the fault line;
-    // then the code, the report and the fault line
     let rows = [
-        (edge_list, 1, 0, 100, 4, "", "higra: read failed\n"),
-        (edge_list, 3, 0, 100, 4, "", "higra: read failed\n"),
-        ("grap 3 0\n", 4, 0, 100, 4, "", "higra: read failed\n"),
-        (edge_list, 0, 2, 100, 5, "tree", "higra: write failed\n"),
-        ("graph 3 2\n0 1 5\n1 2", 0, 0, 5, 3, "", "higra"),
+        (edge_list, (1, 0, 100), (4, "", "higra: read failed\n")),
+        (edge_list, (3, 0, 100), (4, "", "higra: read failed\n")),
+        ("grap 3 0\n", (4, 0, 100), (4, "", "higra: read failed\n")),
+        (edge_list, (0, 2, 100), (5, "tree", "higra: write failed\n")),
+        ("graph 3 2\n0 1 5\n1 2", (0, 0, 5), (3, "", "higra")),
     ];
-    let words = words_of(rt.alloc(), &["tree"])?;
-    for (input, read, write, room, code, report, line) in rows {
-        let mut source = source_of(rt.alloc(), input, read)?;
-        let mut out = sink_of(rt.alloc(), 100, write)?;
-        let mut err = sink_of(rt.alloc(), room, 0)?;
-        let status = run(
-            &rt,
-            rt.alloc(),
-            &words,
-            &mut source,
-            &mut out,
-            &mut err,
-            &OpenGate,
-        );
-        assert_eq!(rt; status.code(), code, "{input} {read} {write}");
-        assert_eq!(rt; out.taken(), report.as_bytes(), "{input} {read} {write}");
-        assert_eq!(rt; err.taken(), line.as_bytes(), "{input} {read} {write}");
+    for (input, fails, want) in rows {
+        runs_in_part(&rt, rt.alloc(), input, fails, want)?;
     }
     assert_eq!(rt; Status::OutOfMemory.code(), 6);
     Ok(())
@@ -206,41 +212,20 @@ impl Source for Blanks {
 
 #[test]
 fn an_input_that_is_too_long(rt: HostRuntime) -> Result<(), Fail> {
-    // the spaces that there are, the fault line, and the spaces that aren't taken
-    let rows = [
-        (
-            134_217_728,
-            "higra: input 1 UnknownForm at 134217728 value 0\n",
-            0,
-        ),
-        (
-            134_217_729,
-            "higra: input 10 TooLong at 134217728 value 134217729\n",
-            0,
-        ),
-        (
-            134_217_740,
-            "higra: input 10 TooLong at 134217728 value 134217729\n",
-            11,
-        ),
-    ];
-    let words = words_of(rt.alloc(), &["tree"])?;
-    for (given, line, left) in rows {
-        let mut source = Blanks { left: given };
-        let mut out = sink_of(rt.alloc(), 100, 0)?;
-        let mut err = sink_of(rt.alloc(), 100, 0)?;
-        let status = run(
-            &rt,
-            rt.alloc(),
-            &words,
-            &mut source,
-            &mut out,
-            &mut err,
-            &OpenGate,
-        );
-        assert_eq!(rt; status.code(), 3);
-        assert_eq!(rt; err.taken(), line.as_bytes());
-        assert_eq!(rt; source.left, left);
-    }
+    let mut source = Blanks { left: 134_217_740 };
+    let mut out = sink_of(rt.alloc(), 100, 0)?;
+    let mut err = sink_of(rt.alloc(), 100, 0)?;
+    let line = "higra: input 10 TooLong at 134217728 value 134217729\n";
+    let want = (3, "", line);
+    runs(
+        &rt,
+        rt.alloc(),
+        &["tree"],
+        &mut source,
+        &mut out,
+        &mut err,
+        want,
+    )?;
+    assert_eq!(rt; source.left, 11);
     Ok(())
 }

@@ -1,11 +1,10 @@
 //! Writes a report about a weighted graph. The words say which; the graph comes from standard input.
 #![tactic(auto)]
 
-use std::env;
-use std::process::ExitCode;
-
 use hg_base::{OpenGate, StdSink, StdSource};
 use higra_cli::{Status, Words, run};
+use std::env;
+use std::process::ExitCode;
 
 // The code where the runtime gives no words. No status has it.
 const NO_WORDS: u8 = 7;

@@ -1,5 +1,4 @@
 use Rattle.std.proofs.Common.{◌≡◌, ℕ, ◌+◌, List, length, refl, arith, rules}
-use Rattle.std.specs.Io.KnownBytes.{Consumes}
 use Rattle.higra_cli.proofs.ReadingLemmas.{too_much, most_from_too_much}
 use Rattle.higra_cli.specs.Reading.{GaveTooMuch}
 use Rattle.higra_cli.proofs.reading.feed_all.Goals as goal

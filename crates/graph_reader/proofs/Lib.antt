@@ -4,3 +4,4 @@ pub mod Chains
 pub mod Takes
 pub mod Decoding
 pub mod Pictures
+pub mod Spelling

@@ -5,3 +5,4 @@ pub mod Parsing
 pub mod ParserFields
 pub mod Progress
 pub mod DecoderFields
+pub mod Spelling

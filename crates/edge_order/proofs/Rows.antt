@@ -70,9 +70,9 @@ ranked-length g = length-map-range_with_len (λ j. listed g j (number_at g j)) 0
 -- the listed edge at rank k
 listed_at : (g : WeightedGraph) (k : ℕ) → k < length g.edges → slice_get (ranked g) k ≡ Some (listed g k (number_at g k))
 listed_at g k h =
-    let row = λ (j : ℕ). listed g j (number_at g j) in
-    slice_get-get_or (ranked g) k (row 0) (rw (ranked-length g) h)
-    ∙ ap (λ (x : ListedEdge). Some x) (get_or-map-range_with_len row 0 (length g.edges) k k (row 0) h (omega arith))
+    let at_rank = λ (j : ℕ). listed g j (number_at g j) in
+    slice_get-get_or (ranked g) k (at_rank 0) (rw (ranked-length g) h)
+    ∙ ap (λ (x : ListedEdge). Some x) (get_or-map-range_with_len at_rank 0 (length g.edges) k k (at_rank 0) h (omega arith))
 
 -- the number at a rank, in the order of a graph
 pub number_at_rank-of : (g : WeightedGraph) (k : ℕ) → k < length g.edges → number_at_rank (order_of g) k ≡ number_at g k

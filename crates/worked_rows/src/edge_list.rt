@@ -4,7 +4,7 @@ use std::alloc::{AllocError, Global};
 
 /// An edge of a graph: its two ends, its weight, and its place in the input.
 #[derive(Clone, Copy)]
-pub struct PlainEdge {
+pub(crate) struct PlainEdge {
     pub u: u64,
     pub v: u64,
     pub weight: u64,
@@ -13,7 +13,7 @@ pub struct PlainEdge {
 
 /// A graph: the number of its vertices, and its edges in the order of the input.
 #[derive(Drop)]
-pub struct PlainGraph {
+pub(crate) struct PlainGraph {
     pub n: u64,
     pub edges: Vec<PlainEdge>,
     ghost few: { n ≤ 1048576 },
@@ -90,7 +90,7 @@ fn edges(alloc: Global, n: u64, numbers: &[u64]) -> Result<Option<Vec<PlainEdge>
 }
 
 /// The graph of a text that is a well-formed edge list with the word `graph`; `None` of any other text.
-pub fn read_graph(alloc: Global, text: &str) -> Result<Option<PlainGraph>, AllocError> {
+pub(crate) fn read_graph(alloc: Global, text: &str) -> Result<Option<PlainGraph>, AllocError> {
     let tokens = tokens(alloc, text)?;
     let Some((&"graph", rest)) = tokens.split_first() else {
         return Ok(None);

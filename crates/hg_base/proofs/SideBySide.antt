@@ -1,29 +1,17 @@
 -- Two edge lists over vertices that lie apart, put side by side: nothing changes on either side.
-use Rattle.std.proofs.Common.{◌≡◌, ℕ, Bool, true, false, inl, inr, refl, sym, ◌∙◌, ap, List, [], ◌∷◌, ◌++◌}
-use Rattle.std.specs.Prelude.{Option, Some, None, nat_lt}
+use Rattle.std.proofs.Common.{◌≡◌, ℕ, Bool, true, false, ◌⊎◌, inl, inr, refl, sym, ◌∙◌, subst, ap, List, [], ◌∷◌, ◌++◌}
+use Rattle.std.specs.Prelude.{not, nat_lt}
 use Rattle.std.proofs.lemmas.Bool.{true≢false}
 use Rattle.std.proofs.lemmas.List.Elements.{filter-append}
-use Rattle.hg_base.specs.Edges.{ListedEdge, EdgeList, IsIn, AreEnds, AreApart, IsWalk, joined, below, next}
+use Rattle.std.proofs.lemmas.List.{append-nil}
+use Rattle.hg_base.specs.Edges.{ListedEdge, EdgeList, IsIn, AreEnds, AreApart, IsSameSet, IsWalk, joined, below, chain}
+pub use Rattle.hg_base.specs.SideBySide.{AreInside, AreOutside, SideBySide}
 use Rattle.hg_base.proofs.Walks.{joined-walk, Joined-joined}
-use Rattle.hg_base.proofs.Members.{IsIn-below_kept}
-use Rattle.hg_base.proofs.Sets.{same_test, joined-among}
+use Rattle.hg_base.proofs.Members.{IsIn-below_kept, rising-same}
+use Rattle.hg_base.proofs.Sets.{same_test, joined-among, chain-same, IsRising-chain}
 use Rattle.hg_base.proofs.Components.{IsIn-append, IsIn-append_back}
 use Rattle.hg_base.proofs.Leaving.{leaves}
-use Rattle.hg_base.proofs.Next.{IsFirst, IsFirst-one, next-first}
-
--- both ends of each edge pass the test
-abbrev pub AreInside : (ℕ → Bool) → EdgeList → Type 0
-AreInside p s = (e : ListedEdge) → IsIn e s → (p e.u ≡ true) × (p e.v ≡ true)
-
--- no end of an edge passes the test
-abbrev pub AreOutside : (ℕ → Bool) → EdgeList → Type 0
-AreOutside p s = (e : ListedEdge) → IsIn e s → (p e.u ≡ false) × (p e.v ≡ false)
-
--- s is inside, t is outside, and no two edges of both have one rank
-pub record SideBySide (p : ℕ → Bool) (s t : EdgeList) : Type 0 where
-  pub inside : AreInside p s
-  pub outside : AreOutside p t
-  pub apart : AreApart (s ++ t)
+use Rattle.hg_base.proofs.Next.{IsIn-leaving, IsIn-leaving_kept}
 
 -- a step from an inside vertex is by an edge of s
 step-inside : (p : ℕ → Bool) (s t : EdgeList) → AreOutside p t → (x z : ℕ) → p x ≡ true → (e : ListedEdge) → IsIn e (s ++ t) → AreEnds e x z → IsIn e s
@@ -73,34 +61,82 @@ joined_below-inside p s t ins out k x y px =
     ∙ joined-inside p (below s k) (below t k)
     (λ e i. ins e (IsIn-below_kept e s k i).0) (λ e i. out e (IsIn-below_kept e t k i).0) x y px
 
--- An inside vertex has the same edge next, beside whatever lies outside.
-pub next-inside : (p : ℕ → Bool) (s t : EdgeList) → SideBySide p s t → AreApart s → (x k : ℕ) → p x ≡ true → next (s ++ t) x k ≡ next s x k
-next-inside p s t b hs x k px =
-    IsFirst-one (leaves (s ++ t) x) (s ++ t) b.apart k _ _ (next-first (s ++ t) b.apart x k) (go (next s x k) (next-first s hs x k))
+-- an edge leaves the component of an inside vertex where it did
+leaves-inside : (p : ℕ → Bool) (s t : EdgeList) → SideBySide p s t → (x : ℕ) → p x ≡ true → (f : ListedEdge) → leaves (s ++ t) x f ≡ leaves s x f
+leaves-inside p s t b x px f =
+    rw (joined_below-inside p s t b.inside b.outside f.rank x f.u px, joined_below-inside p s t b.inside b.outside f.rank x f.v px) refl
+
+-- inside edges join an inside vertex to no outside one
+never-out : (p : ℕ → Bool) (s t : EdgeList) → SideBySide p s t → (x : ℕ) → p x ≡ true → (k y : ℕ) → p y ≡ false → joined (below s k) x y ≡ false
+never-out p s t b x px k y out =
+    same_test (joined (below s k) x y) false
+    (λ j. absurd (true≢false (sym (joined-stays_in p (below s k) (λ e i. b.inside e (IsIn-below_kept e s k i).0) x y px j) ∙ out)))
+    (λ j. absurd (true≢false (sym j)))
+
+-- what leaves the component of an inside vertex is inside
+leaving-inside : (p : ℕ → Bool) (s t : EdgeList) → SideBySide p s t → (x : ℕ) → p x ≡ true → (f : ListedEdge) → IsIn f (s ++ t) → leaves (s ++ t) x f ≡ true → IsIn f s
+leaving-inside p s t b x px f i h =
+    elim (IsIn-append_back f s t i) [
+      | inl in_s ↦ in_s
+      | inr in_t ↦ absurd (true≢false (sym (sym (leaves-inside p s t b x px f) ∙ h)
+          ∙ rw (never-out p s t b x px f.rank f.u (b.outside f in_t).0, never-out p s t b x px f.rank f.v (b.outside f in_t).1) refl))
+    ]
+
+-- both lists have edges of different ranks, where they have together
+pub AreApart-front : (s t : EdgeList) → AreApart (s ++ t) → AreApart s
+AreApart-front [] t h = tt
+AreApart-front (e ∷ s) t h = (λ f i. h.0 f (IsIn-append f s t (inl i)), AreApart-front s t h.1)
+
+pub AreApart-back : (s t : EdgeList) → AreApart (s ++ t) → AreApart t
+AreApart-back [] t h = h
+AreApart-back (e ∷ s) t h = AreApart-back s t h.1
+
+-- an edge more, of a rank that the list hasn't, in the middle of it
+AreApart-between : (e : ListedEdge) (s t : EdgeList) → AreApart (s ++ t) → ((f : ListedEdge) → IsIn f (s ++ t) → e.rank ≡ f.rank → ⊥) → AreApart (s ++ (e ∷ t))
+AreApart-between e [] t h new = (new, h)
+AreApart-between e (g ∷ s) t h new = (
+  λ f i r. (elim (IsIn-append_back f s (e ∷ t) i) as (λ _. ⊥) [
+    | inl in_s ↦ h.0 f (IsIn-append f s t (inl in_s)) r
+    | inr rest ↦ elim rest as (λ _. ⊥) [
+      | inl same ↦ new g (inl refl) (ap (λ (x : ListedEdge). x.rank) same ∙ sym r)
+      | inr in_t ↦ h.0 f (IsIn-append f s t (inr in_t)) r
+    ]
+  ]),
+  AreApart-between e s t h.1 (λ f i. new f (inr i)),
+)
+
+-- the order of the two lists is free
+pub AreApart-turned : (s t : EdgeList) → AreApart (s ++ t) → AreApart (t ++ s)
+AreApart-turned [] t h = subst AreApart (sym (append-nil t)) h
+AreApart-turned (e ∷ s) t h =
+    AreApart-between e t s (AreApart-turned s t h.1)
+    (λ f i r. h.0 f (IsIn-append f s t (elim (IsIn-append_back f t s i) as (λ _. IsIn f s ⊎ IsIn f t) [ inl in_t ↦ inr in_t | inr in_s ↦ inl in_s ])) r)
+
+IsSameSet-turned : (s t : EdgeList) → IsSameSet (s ++ t) (t ++ s)
+IsSameSet-turned s t = record { on = turned s t; back = turned t s }
   where
-    agree : (f : ListedEdge) → leaves (s ++ t) x f ≡ leaves s x f
-    agree f = rw (joined_below-inside p s t b.inside b.outside f.rank x f.u px, joined_below-inside p s t b.inside b.outside f.rank x f.v px) refl
+    turned : (a b : EdgeList) (e : ListedEdge) → IsIn e (a ++ b) → IsIn e (b ++ a)
+    turned a b e i = IsIn-append e b a (elim (IsIn-append_back e a b i) as (λ _. IsIn e b ⊎ IsIn e a) [ inl in_a ↦ inr in_a | inr in_b ↦ inl in_b ])
 
-    never_out : (f : ListedEdge) (q : ℕ) → p q ≡ false → joined (below s f.rank) x q ≡ false
-    never_out f q out =
-        same_test (joined (below s f.rank) x q) false
-        (λ j. absurd (true≢false (sym (joined-stays_in p (below s f.rank) (λ e i. b.inside e (IsIn-below_kept e s f.rank i).0) x q px j) ∙ out)))
-        (λ j. absurd (true≢false (sym j)))
+-- The chain of an inside vertex is as it was.
+pub chain-inside : (p : ℕ → Bool) (s t : EdgeList) (x : ℕ) → SideBySide p s t → p x ≡ true → chain (s ++ t) x ≡ chain s x
+chain-inside p s t x b px =
+    rising-same (chain (s ++ t) x) (chain s x) (IsRising-chain (s ++ t) x b.apart) (IsRising-chain s x (AreApart-front s t b.apart))
+    (record {
+      on = λ f i. (let q = IsIn-leaving_kept (s ++ t) x f i in
+          IsIn-leaving s x f (leaving-inside p s t b x px f q.0 q.1) (sym (leaves-inside p s t b x px f) ∙ q.1));
+      back = λ f i. (let q = IsIn-leaving_kept s x f i in
+          IsIn-leaving (s ++ t) x f (IsIn-append f s t (inl q.0)) (leaves-inside p s t b x px f ∙ q.1));
+    })
 
-    outside_stays : (f : ListedEdge) → IsIn f t → leaves s x f ≡ true → ⊥
-    outside_stays f i h =
-        true≢false (sym h ∙ rw (never_out f f.u (b.outside f i).0, never_out f f.v (b.outside f i).1) refl)
-
-    stays_in : (f : ListedEdge) → IsIn f (s ++ t) → leaves (s ++ t) x f ≡ true → IsIn f s
-    stays_in f i h =
-        elim (IsIn-append_back f s t i) [
-          | inl in_s ↦ in_s
-          | inr in_t ↦ absurd (outside_stays f in_t (sym (agree f) ∙ h))
-        ]
-
-    go : (o : Option ListedEdge) → IsFirst (leaves s x) s k o → IsFirst (leaves (s ++ t) x) (s ++ t) k o
-    go None h = λ f i q. h f (stays_in f i q) (sym (agree f) ∙ q)
-    go (Some e) h = (
-      (IsIn-append e s t (inl h.0.0), (agree e ∙ h.0.1.0, h.0.1.1)),
-      λ f i q up. h.1 f (stays_in f i q) (sym (agree f) ∙ q) up,
-    )
+-- The chain of an outside vertex is as it was.
+pub chain-outside : (p : ℕ → Bool) (s t : EdgeList) (x : ℕ) → SideBySide p s t → p x ≡ false → chain (s ++ t) x ≡ chain t x
+chain-outside p s t x b px =
+    chain-same (s ++ t) (t ++ s) x b.apart (AreApart-turned s t b.apart) (IsSameSet-turned s t)
+    ∙ chain-inside (λ y. not (p y)) t s x
+    (record {
+      inside = λ e i. (ap not (b.outside e i).0, ap not (b.outside e i).1);
+      outside = λ e i. (ap not (b.inside e i).0, ap not (b.inside e i).1);
+      apart = AreApart-turned s t b.apart;
+    })
+    (ap not px)

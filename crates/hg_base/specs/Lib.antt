@@ -5,6 +5,7 @@ pub mod Rank
 pub mod Tree
 pub mod Saliency
 pub mod Splice
+pub mod SideBySide
 pub mod Worked
 pub mod Text
 pub mod Fault

@@ -1,10 +1,11 @@
 //! Laws of the definitions. Each is the contract of a function that does nothing.
-ghost use Rattle.std.specs.Prelude.{◌≡◌, ◌↔◌, ◌⊎◌, ℕ, suc, ◌+◌, ◌<◌, ◌≤◌, ◌∷◌, length, Option, Some, IsTrue};
+ghost use Rattle.std.specs.Prelude.{◌≡◌, ◌↔◌, ◌⊎◌, ℕ, suc, ◌+◌, ◌<◌, ◌≤◌, Bool, true, false, ◌∷◌, ◌++◌, length, Some, IsTrue};
 ghost use Rattle.hg_base.specs.Graph.{WeightedGraph, IsGraph, first_end, second_end};
 ghost use Rattle.hg_base.specs.Edges.{ListedEdge, EdgeList, IsIn, IsSameSet, AreApart, AreWithin, Joined, joined, below, joins, chain, next, merged, components, ShareBelow, renamed, IsOneToOne};
 ghost use Rattle.hg_base.specs.Rank.{rank, listed, ranked};
 ghost use Rattle.hg_base.specs.Tree.{ParentTree, altitude, IsAbove, IsFrontTree, tree_of, graph_tree, place};
 ghost use Rattle.hg_base.specs.Saliency.{IsLowestAbove, IsSaliency, MeetFirst};
+ghost use Rattle.hg_base.specs.SideBySide.{SideBySide};
 ghost use Rattle.hg_base.specs.Splice.{IsRedundant, LeadsOut, ComesAfter, IsAtEnd};
 
 /// The test `joined` says exactly where a walk through the edges of the list leads.
@@ -68,6 +69,12 @@ pub fn splice()
     // Until then the chains of both ends are merged into one.
     ensures merging { (e : ListedEdge) (s : EdgeList) (x k : ℕ) → AreApart (e ∷ s) → e.rank < k → ¬ Joined (below s k) e.u e.v → IsAtEnd e s k x →
         next (e ∷ s) x k ≡ merged s (next s e.u k) (next s e.v k) }
+{}
+
+/// Two lists whose ends lie apart, put side by side, change no chain of each other.
+pub fn lists_side_by_side()
+    ensures inside { (p : ℕ → Bool) (s t : EdgeList) (x : ℕ) → SideBySide p s t → p x ≡ true → chain (s ++ t) x ≡ chain s x }
+    ensures outside { (p : ℕ → Bool) (s t : EdgeList) (x : ℕ) → SideBySide p s t → p x ≡ false → chain (s ++ t) x ≡ chain t x }
 {}
 
 /// Joining edges and components add up to the number of vertices.

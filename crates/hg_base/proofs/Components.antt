@@ -1,7 +1,7 @@
 -- Joining edges and components add up to the number of vertices.
 use Rattle.std.proofs.Common.{◌≡◌, ◌≢◌, ℕ, zero, suc, ◌+◌, ◌<◌, Bool, true, false, ◌⊎◌, inl, inr, refl, sym, ◌∙◌, subst, ap, arith, List, [], ◌∷◌, ◌++◌, length, length-append}
 use Rattle.std.specs.Prelude.{not}
-use Rattle.std.proofs.lemmas.Bool.{cases_Bool, cases_order, true≢false}
+use Rattle.std.proofs.lemmas.Bool.{false_from_ne_true, cases_Bool, cases_order, true≢false}
 use Rattle.hg_base.specs.Edges.{ListedEdge, EdgeList, IsIn, AreApart, AreWithin, joined, below, joins, is_joining, count_below, is_least, components, link}
 use Rattle.hg_base.proofs.Link.{IsSame, link_cases, link-old, link-over, link-back}
 use Rattle.hg_base.proofs.Walks.{IsSame-joined}
@@ -19,12 +19,10 @@ link-drop r same u v n a b vn lower =
     count_below-drop (is_least r) (is_least (link r u v)) b.at n (omega arith) was_least no_more others
   where
     was_least : is_least r b.at ≡ true
-    was_least = is_least-from r b.at (λ y lt. same_test (r b.at y) false (λ k. sym (b.least y lt) ∙ same.on v b.at y b.passes k) (λ k. absurd (true≢false (sym k))))
+    was_least = is_least-from r b.at (λ y lt. false_from_ne_true (r b.at y) (λ k. true≢false (sym (sym (b.least y lt) ∙ same.on v b.at y b.passes k))))
 
     no_more : is_least (link r u v) b.at ≡ false
-    no_more = same_test (is_least (link r u v) b.at) false
-        (λ k. absurd (true≢false (sym (link-back r u v b.at a.at (same.back v b.at b.passes) a.passes) ∙ is_least-to (link r u v) b.at k a.at lower)))
-        (λ k. absurd (true≢false (sym k)))
+    no_more = false_from_ne_true (is_least (link r u v) b.at) (λ k. true≢false (sym (link-back r u v b.at a.at (same.back v b.at b.passes) a.passes) ∙ is_least-to (link r u v) b.at k a.at lower))
 
     still : (x y : ℕ) → x ≢ b.at → is_least r x ≡ true → y < x → link r u v x y ≡ true → ⊥
     still x y other k lt j =
@@ -62,8 +60,8 @@ link-drop r same u v n a b vn lower =
 
     others : (x : ℕ) → x ≢ b.at → is_least (link r u v) x ≡ is_least r x
     others x other = same_test (is_least (link r u v) x) (is_least r x)
-        (λ k. is_least-from r x (λ y lt. same_test (r x y) false (λ j. sym (is_least-to (link r u v) x k y lt) ∙ link-old r u v x y j) (λ j. absurd (true≢false (sym j)))))
-        (λ k. is_least-from (link r u v) x (λ y lt. same_test (link r u v x y) false (λ j. absurd (still x y other k lt j)) (λ j. absurd (true≢false (sym j)))))
+        (λ k. is_least-from r x (λ y lt. false_from_ne_true (r x y) (λ j. true≢false (sym (sym (is_least-to (link r u v) x k y lt) ∙ link-old r u v x y j)))))
+        (λ k. is_least-from (link r u v) x (λ y lt. false_from_ne_true (link r u v x y) (λ j. still x y other k lt j)))
 
 -- a link goes both ways
 link-flip : (r : ℕ → ℕ → Bool) (u v x y : ℕ) → link r v u x y ≡ link r u v x y
@@ -209,8 +207,7 @@ pub front-count : (n : ℕ) (s : EdgeList) → AreApart s → AreWithin n s → 
 front-count n s h within zero =
     let none' : below (joins s) 0 ≡ [] = nothing-in (below (joins s) 0) (λ e i. (let low : e.rank < 0 = (IsIn-below_kept e (joins s) 0 i).1 in absurd (omega arith))) in
     let all : components n (below s 0) ≡ n = count_below-all (is_least (joined (below s 0))) n
-    (λ x lt. is_least-from (joined (below s 0)) x (λ y low. same_test (joined (below s 0) x y) false
-    (λ j. absurd (let same : x ≡ y = joined-first_front s x y j in omega arith)) (λ j. absurd (true≢false (sym j))))) in
+    (λ x lt. is_least-from (joined (below s 0)) x (λ y low. false_from_ne_true (joined (below s 0) x y) (λ j. (let same : x ≡ y = joined-first_front s x y j in omega arith)))) in
     rw (none', all) (omega arith)
 front-count n s h within (suc k) =
     elim (rank_found s k) [

@@ -1,7 +1,7 @@
 -- Which edges join after one more edge e: e itself unless it is redundant, and all that did but the one that first joined e's ends.
 use Rattle.std.proofs.Common.{◌≡◌, ℕ, suc, ◌<◌, ◌≤◌, Bool, true, false, inl, inr, refl, sym, ◌∙◌, subst, ap, arith, ◌∷◌}
 use Rattle.std.specs.Prelude.{not, ◌&&◌, ◌↔◌}
-use Rattle.std.proofs.lemmas.Bool.{cases_Bool, cases_order, true≢false}
+use Rattle.std.proofs.lemmas.Bool.{and_parts, false_from_ne_true, cases_Bool, cases_order, true≢false}
 use Rattle.hg_base.specs.Edges.{ListedEdge, EdgeList, IsIn, AreApart, Joined, joined, below, is_joining, joins, chain}
 use Rattle.hg_base.specs.Saliency.{MeetFirst}
 use Rattle.hg_base.specs.Splice.{IsRedundant}
@@ -10,21 +10,22 @@ use Rattle.hg_base.proofs.Walks.{IsSame-joined, joined-walk, Joined-joined}
 use Rattle.hg_base.proofs.Members.{rising-same}
 use Rattle.hg_base.proofs.Sets.{same_test, joined_below-more, IsIn-joins, IsIn-joins_kept, IsRising-joins, IsRising-chain}
 use Rattle.hg_base.proofs.Fronts.{joined-step_with}
-use Rattle.hg_base.proofs.Leaving.{xor, leaves, link-same, joins-link, crossing_leaves, crossing_back, and_both}
+use Rattle.hg_base.proofs.Leaving.{xor, leaves, link-same, joins-link, crossing_leaves, crossing_back}
 use Rattle.hg_base.proofs.Next.{IsIn-leaving, IsIn-leaving_kept}
 use Rattle.hg_base.proofs.Splice.{joined-low, joined-high, leaves-low, leaves-joined}
 use Rattle.hg_base.proofs.Meeting.{joined-by}
 
 -- the test of a fact that doesn't hold is false
 pub untrue : (s : EdgeList) (x y : ℕ) → (Joined s x y → ⊥) → joined s x y ≡ false
-untrue s x y h = same_test (joined s x y) false (λ k. absurd (h (Joined-joined s x y k))) (λ k. absurd (true≢false (sym k)))
+untrue s x y h = false_from_ne_true (joined s x y) (λ k. h (Joined-joined s x y k))
 
 -- the test of a fact that holds is true
 pub holds : (s : EdgeList) (x y : ℕ) → Joined s x y → joined s x y ≡ true
 holds s x y j = joined-walk s x j.0 y j.1
 
-not_joined : (s : EdgeList) (x y : ℕ) → joined s x y ≡ false → Joined s x y → ⊥
-not_joined s x y h j = true≢false (sym (holds s x y j) ∙ h)
+-- a test that is false is of a fact that doesn't hold
+pub not-Joined : (s : EdgeList) (x y : ℕ) → joined s x y ≡ false → Joined s x y → ⊥
+not-Joined s x y h j = true≢false (sym (holds s x y j) ∙ h)
 
 joining-low : (e : ListedEdge) (s : EdgeList) (f : ListedEdge) → f.rank ≤ e.rank → is_joining (e ∷ s) f ≡ is_joining s f
 joining-low e s f h = ap not (joined-low e s f.rank f.u f.v h)
@@ -44,7 +45,7 @@ meets_both s a b f i apart ha hb = record {
   member = i;
   behind = λ k lt. Joined-joined (below s k) a b (joined-by s a b f k i ha hb lt);
   before = λ k j. (elim (cases_order f.rank k) [
-    | inl level ↦ absurd (not_joined (below s f.rank) a b apart (subst (λ (m : ℕ). Joined (below s m) a b) (sym level) j))
+    | inl level ↦ absurd (not-Joined (below s f.rank) a b apart (subst (λ (m : ℕ). Joined (below s m) a b) (sym level) j))
     | inr other ↦ elim other [
       | inl low ↦ low
       | inr high ↦ absurd (true≢false (sym (joined_below-more s k f.rank a b (omega arith) (holds (below s k) a b j)) ∙ apart))
@@ -75,7 +76,7 @@ joining-before e s h f j =
         | inl low ↦ sym (joining-low e s f (omega arith)) ∙ j
         | inr high ↦ elim (cases_Bool (joined (below s f.rank) e.u e.v)) [
           | inl joined_by_then ↦ sym (joining-joined e s f high joined_by_then) ∙ j
-          | inr apart ↦ (and_both _ _ (sym (joining-apart e s f high apart) ∙ j)).0
+          | inr apart ↦ (and_parts _ _ (sym (joining-apart e s f high apart) ∙ j)).0
         ]
       ]
     ]
@@ -91,7 +92,7 @@ joins-kept e s h needed f i = (down, up)
           | inl level ↦ h.0 f i level
           | inr other ↦ elim other [
             | inl high ↦ (let apart : joined (below s f.rank) e.u e.v ≡ false = untrue (below s f.rank) e.u e.v (λ k. (let lt : f.rank < f.rank = m.before f.rank k in omega arith)) in
-                true≢false (sym (and_both _ _ (sym (joining-apart e s f high apart) ∙ j)).1 ∙ ap not (first_leaves s h.1 e.u e.v f m)))
+                true≢false (sym (and_parts _ _ (sym (joining-apart e s f high apart) ∙ j)).1 ∙ ap not (first_leaves s h.1 e.u e.v f m)))
             | inr low ↦ needed (m.behind e.rank low)
           ]
         ]
@@ -110,7 +111,7 @@ joins-kept e s h needed f i = (down, up)
             | inr high ↦ elim (cases_Bool (joined (below s f.rank) e.u e.v)) [
               | inl joined_by_then ↦ joining-joined e s f high joined_by_then ∙ j
               | inr apart ↦ elim (cases_Bool (leaves s e.u f && leaves s e.v f)) [
-                | inl both ↦ absurd (other_first (meets_both s e.u e.v f i apart (and_both _ _ both).0 (and_both _ _ both).1))
+                | inl both ↦ absurd (other_first (meets_both s e.u e.v f i apart (and_parts _ _ both).0 (and_parts _ _ both).1))
                 | inr one ↦ joining-apart e s f high apart ∙ rw (j, one) refl
               ]
             ]

@@ -12,6 +12,16 @@ abbrev pub IsUpTo : Option ListedEdge → ℕ → Type 0
 IsUpTo None n = Unit {0}
 IsUpTo (Some f) n = n ≤ f.rank
 
+-- a rank below one that is before the edge is before it
+pub IsBefore-sooner : (o : Option ListedEdge) (m n : ℕ) → m < n → IsBefore o n → IsBefore o m
+IsBefore-sooner None m n lt before = tt
+IsBefore-sooner (Some g) m n lt before = omega arith
+
+-- a rank below one that isn't above the edge is before it
+pub IsBefore-below : (o : Option ListedEdge) (m n : ℕ) → m < n → IsUpTo o n → IsBefore o m
+IsBefore-below None m n lt to = tt
+IsBefore-below (Some g) m n lt to = omega arith
+
 -- no edge before the first passes the test
 pub first-quiet : (p : ListedEdge → Bool) (s : EdgeList) (k : ℕ) (o : Option ListedEdge) → IsFirst p s k o →
     (g : ListedEdge) → IsIn g s → k ≤ g.rank → IsBefore o g.rank → p g ≡ false

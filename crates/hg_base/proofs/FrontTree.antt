@@ -1,17 +1,18 @@
 -- The tree of an edge list is a front tree: its nodes' vertex sets are exactly the components of the fronts, each once.
 use Rattle.std.proofs.Common.{◌≡◌, ℕ, zero, suc, ◌+◌, ◌-◌, ◌<◌, ◌≤◌, Bool, true, false, ◌⊎◌, inl, inr, refl, sym, ◌∙◌, subst, arith, [], length}
 use Rattle.std.specs.Prelude.{not, ◌↔◌}
-use Rattle.std.proofs.lemmas.Bool.{cases_Bool, cases_order, true≢false}
+use Rattle.std.proofs.lemmas.Option.{slice_get_within}
+use Rattle.std.proofs.lemmas.Bool.{false_from_ne_true, cases_Bool, cases_order, true≢false}
 use Rattle.hg_base.specs.Edges.{ListedEdge, EdgeList, IsIn, AreApart, AreWithin, Joined, joined, below, is_joining, joins}
 use Rattle.hg_base.specs.Tree.{IsAbove, place, tree_of, HasComponent}
 use Rattle.hg_base.proofs.Link.{IsSame, link_cases}
 use Rattle.hg_base.proofs.Walks.{IsSame-joined, joined-walk, Joined-joined}
-use Rattle.hg_base.proofs.Sets.{same_test, IsIn-joins, IsIn-joins_kept}
+use Rattle.hg_base.proofs.Sets.{IsIn-joins, IsIn-joins_kept}
 use Rattle.hg_base.proofs.Fronts.{rank_found, joined-step_with, apart-one, joined-first_front}
 use Rattle.hg_base.proofs.Leaving.{leaves}
 use Rattle.hg_base.proofs.Next.{component-stays}
 use Rattle.hg_base.proofs.Merged.{joined-to_end}
-use Rattle.hg_base.proofs.Nodes.{place-one, slice_get-less, slice_get-some, joins-at, joins-index, length-parents}
+use Rattle.hg_base.proofs.Nodes.{place-one, slice_get-some, joins-at, joins-index, length-parents}
 use Rattle.hg_base.proofs.Paths.{IsIn-joins_made, ancestor-path, made-above, leaving-joins}
 
 -- no edge of rank from j up to k leaves the component of x
@@ -79,12 +80,12 @@ leaving-behind s h e i j y k =
 
     at_first : IsSame (joined (below s e.rank)) → joined (below s e.rank) e.u e.v ≡ false → joined (below s e.rank) y e.u ≡ true → leaves s y e ≡ true
     at_first same apart p =
-        let q : joined (below s e.rank) y e.v ≡ false = same_test (joined (below s e.rank) y e.v) false (λ z. sym apart ∙ same.on e.u y e.v (same.back y e.u p) z) (λ z. absurd (true≢false (sym z))) in
+        let q : joined (below s e.rank) y e.v ≡ false = false_from_ne_true (joined (below s e.rank) y e.v) (λ z. true≢false (sym (sym apart ∙ same.on e.u y e.v (same.back y e.u p) z))) in
         rw (p, q) refl
 
     at_second : IsSame (joined (below s e.rank)) → joined (below s e.rank) e.u e.v ≡ false → joined (below s e.rank) y e.v ≡ true → leaves s y e ≡ true
     at_second same apart p =
-        let q : joined (below s e.rank) y e.u ≡ false = same_test (joined (below s e.rank) y e.u) false (λ z. sym apart ∙ same.on e.u y e.v (same.back y e.u z) p) (λ z. absurd (true≢false (sym z))) in
+        let q : joined (below s e.rank) y e.u ≡ false = false_from_ne_true (joined (below s e.rank) y e.u) (λ z. true≢false (sym (sym apart ∙ same.on e.u y e.v (same.back y e.u z) p))) in
         rw (q, p) refl
 
 -- the leaves below the node of e: whom the edges of rank up to e's join to its first end
@@ -146,7 +147,7 @@ component-made n s h x k l y lty = (down, up)
 -- the number of an inner node is one of the tree's
 node-less : (n : ℕ) (s : EdgeList) → AreApart s → (e : ListedEdge) → IsIn e (joins s) → n + place s e < length (tree_of n s).parents
 node-less n s h e i =
-    let p : place s e < length (joins s) = slice_get-less (joins s) (place s e) e (joins-at s h e i) in
+    let p : place s e < length (joins s) = slice_get_within (joins s) (place s e) e (joins-at s h e i) in
     let q : length (tree_of n s).parents ≡ n + length (joins s) = length-parents n s in
     omega arith
 

@@ -1,21 +1,21 @@
 -- The laws in the words of the definitions: walks in place of tests.
-use Rattle.std.proofs.Common.{◌≡◌, ℕ, ◌<◌, true, false, ◌⊎◌, inl, inr, refl, sym, ◌∙◌, ◌∷◌, length}
+use Rattle.std.proofs.Common.{◌≡◌, ℕ, ◌<◌, true, false, ◌⊎◌, inl, inr, refl, ◌∷◌, length}
 use Rattle.std.specs.Prelude.{◌↔◌, ◌||◌}
-use Rattle.std.proofs.lemmas.Bool.{or_left, or_right, true≢false}
+use Rattle.std.proofs.lemmas.Bool.{false_from_ne_true, or_left, or_right}
 use Rattle.hg_base.specs.Graph.{WeightedGraph, IsGraph, first_end, second_end}
 use Rattle.hg_base.specs.Edges.{ListedEdge, EdgeList, IsIn, AreApart, Joined, joined, below, next, merged, ShareBelow}
 use Rattle.hg_base.specs.Rank.{ranked}
 use Rattle.hg_base.specs.Tree.{altitude, graph_tree}
 use Rattle.hg_base.specs.Saliency.{IsLowestAbove, IsSaliency}
 use Rattle.hg_base.specs.Splice.{LeadsOut, IsAtEnd}
-use Rattle.hg_base.proofs.Walks.{IsSame-joined, Joined-joined}
-use Rattle.hg_base.proofs.Sets.{same_test, walk-among, IsIn-chain, IsIn-chain_kept}
+use Rattle.hg_base.proofs.Walks.{walk-among, IsSame-joined, Joined-joined}
+use Rattle.hg_base.proofs.Sets.{IsIn-chain, IsIn-chain_kept}
 use Rattle.hg_base.proofs.Fronts.{MeetBelow, joined-meet, meet-joined}
 use Rattle.hg_base.proofs.Leaving.{leaves, xor_cases}
 use Rattle.hg_base.proofs.Splice.{next-elsewhere}
 use Rattle.hg_base.proofs.Merged.{next-merged}
 use Rattle.hg_base.proofs.Meeting.{lowest-weight}
-use Rattle.hg_base.proofs.Drops.{untrue, holds}
+use Rattle.hg_base.proofs.Drops.{untrue, holds, not-Joined}
 use Rattle.hg_base.proofs.Ranked.{AreApart-ranked, AreByWeight-ranked, ends-within}
 
 pub Joined-back : (s : EdgeList) (x y : ℕ) → Joined s x y → Joined s y x
@@ -26,10 +26,6 @@ Joined-through s x y z j k = Joined-joined s x z ((IsSame-joined s).on x y z (ho
 
 pub Joined-among : (s t : EdgeList) (x y : ℕ) → ((e : ListedEdge) → IsIn e s → IsIn e t) → Joined s x y → Joined t x y
 Joined-among s t x y more j = (j.0, walk-among s t more x j.0 y j.1)
-
--- a test that is false is of a fact that doesn't hold
-pub not-Joined : (s : EdgeList) (x y : ℕ) → joined s x y ≡ false → Joined s x y → ⊥
-not-Joined s x y h j = true≢false (sym (holds s x y j) ∙ h)
 
 -- what `leaves` tests
 pub leaves-from : (s : EdgeList) (x : ℕ) (e : ListedEdge) → LeadsOut s x e → leaves s x e ≡ true
@@ -45,7 +41,7 @@ LeadsOut-from s x e h =
 
 -- an edge that doesn't lead out doesn't leave
 pub stays-from : (s : EdgeList) (x : ℕ) (e : ListedEdge) → (LeadsOut s x e → ⊥) → leaves s x e ≡ false
-stays-from s x e h = same_test (leaves s x e) false (λ k. absurd (h (LeadsOut-from s x e k))) (λ k. absurd (true≢false (sym k)))
+stays-from s x e h = false_from_ne_true (leaves s x e) (λ k. h (LeadsOut-from s x e k))
 
 -- the two forms of "the chains share an edge"
 pub shared-from : (s : EdgeList) (k x y : ℕ) → (x ≡ y) ⊎ MeetBelow s k x y → (x ≡ y) ⊎ ShareBelow s k x y

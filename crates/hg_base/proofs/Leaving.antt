@@ -1,7 +1,7 @@
 -- Which edges lead out of a component, and how that changes when two components are joined.
 use Rattle.std.proofs.Common.{◌≡◌, ℕ, Bool, true, false, cond, ◌⊎◌, inl, inr, refl, sym, ◌∙◌, ap, arith}
 use Rattle.std.specs.Prelude.{not, ◌&&◌, ◌||◌}
-use Rattle.std.proofs.lemmas.Bool.{cases_Bool, or_cases, or_left, or_right, true≢false}
+use Rattle.std.proofs.lemmas.Bool.{or_parts, and_parts, false_from_ne_true, cases_Bool, or_cases, or_left, or_right, true≢false}
 use Rattle.hg_base.specs.Edges.{ListedEdge, EdgeList, joined, below, link}
 use Rattle.hg_base.proofs.Link.{IsSame, link_cases, link-old, link-over, link-back}
 use Rattle.hg_base.proofs.Sets.{same_test}
@@ -58,21 +58,10 @@ xor-or false false true false h k = refl
 xor-or false false false true h k = refl
 xor-or false false false false h k = refl
 
-pub and_both : (p q : Bool) → (p && q) ≡ true → (p ≡ true) × (q ≡ true)
-and_both true true h = (refl, refl)
-and_both true false h = absurd (true≢false (sym h))
-and_both false q h = absurd (true≢false (sym h))
-
 -- no vertex belongs to two that are apart
 apart-rows : (r : ℕ → ℕ → Bool) → IsSame r → (a b u : ℕ) → r a b ≡ false → (r a u && r b u) ≡ false
 apart-rows r same a b u h =
-    same_test (r a u && r b u) false
-    (λ k. let p = and_both (r a u) (r b u) k in sym h ∙ same.on a u b p.0 (same.back b u p.1))
-    (λ k. absurd (true≢false (sym k)))
-
-pub or_neither : (p q : Bool) → (p || q) ≡ false → (p ≡ false) × (q ≡ false)
-or_neither true q h = absurd (true≢false h)
-or_neither false q h = (refl, h)
+    false_from_ne_true (r a u && r b u) (λ k. let p = and_parts (r a u) (r b u) k in true≢false (sym (sym h ∙ same.on a u b p.0 (same.back b u p.1))))
 
 -- What leaves the component of x once a and b are joined: what leaves either and not both, where x is in one of
 -- them; what left before, where x is in neither.
@@ -82,7 +71,7 @@ xor-link r same a b x u v apart =
     elim (cases_Bool (r x a || r x b)) [
       | inl one ↦ rw (one, link-both r same a b x u apart one, link-both r same a b x v apart one)
           (xor-or (r a u) (r b u) (r a v) (r b v) (apart-rows r same a b u apart) (apart-rows r same a b v apart))
-      | inr neither ↦ (let ha = or_neither (r x a) (r x b) neither in
+      | inr neither ↦ (let ha = or_parts (r x a) (r x b) neither in
           rw (neither, link-elsewhere r a b x u ha.0 ha.1, link-elsewhere r a b x v ha.0 ha.1) refl)
     ]
 
@@ -113,14 +102,14 @@ xor_cases false false h = absurd (true≢false (sym h))
 -- whom b is joined to, a isn't
 pub not_both : (r : ℕ → ℕ → Bool) → IsSame r → (a b y : ℕ) → r a b ≡ false → r b y ≡ true → r a y ≡ false
 not_both r same a b y apart h =
-    same_test (r a y) false (λ k. sym apart ∙ same.on a y b k (same.back b y h)) (λ k. absurd (true≢false (sym k)))
+    false_from_ne_true (r a y) (λ k. true≢false (sym (sym apart ∙ same.on a y b k (same.back b y h))))
 
 -- an edge from one component to the other leaves both
 pub crossing_leaves : (r : ℕ → ℕ → Bool) → IsSame r → (a b u v : ℕ) → r a b ≡ false → r a u ≡ true → r b v ≡ true →
     (xor (r a u) (r a v) && xor (r b u) (r b v)) ≡ true
 crossing_leaves r same a b u v apart hu hv =
     let nav : r a v ≡ false = not_both r same a b v apart hv in
-    let nbu : r b u ≡ false = not_both r same b a u (same_test (r b a) false (λ k. sym apart ∙ same.back b a k) (λ k. absurd (true≢false (sym k)))) hu in
+    let nbu : r b u ≡ false = not_both r same b a u (false_from_ne_true (r b a) (λ k. true≢false (sym (sym apart ∙ same.back b a k)))) hu in
     rw (hu, hv, nav, nbu) refl
 
 -- the same from the other end
@@ -128,7 +117,7 @@ pub crossing_back : (r : ℕ → ℕ → Bool) → IsSame r → (a b u v : ℕ) 
     (xor (r a u) (r a v) && xor (r b u) (r b v)) ≡ true
 crossing_back r same a b u v apart hv hu =
     let nau : r a u ≡ false = not_both r same a b u apart hu in
-    let nbv : r b v ≡ false = not_both r same b a v (same_test (r b a) false (λ k. sym apart ∙ same.back b a k) (λ k. absurd (true≢false (sym k)))) hv in
+    let nbv : r b v ≡ false = not_both r same b a v (false_from_ne_true (r b a) (λ k. true≢false (sym (sym apart ∙ same.back b a k)))) hv in
     rw (hu, hv, nau, nbv) refl
 
 -- the ends of an edge that the link joins were joined, or the edge leaves both components
@@ -147,7 +136,7 @@ leaving_linked : (r : ℕ → ℕ → Bool) → IsSame r → (a b u v : ℕ) →
 leaving_linked r same a b u v apart h =
     elim (or_cases _ _ h) [
       | inl old ↦ link-old r a b u v old
-      | inr both ↦ (let p = and_both _ _ both in
+      | inr both ↦ (let p = and_parts _ _ both in
           elim (xor_cases (r a u) (r a v) p.0) [
             | inl first ↦ elim (xor_cases (r b u) (r b v) p.1) [
               | inl clash ↦ absurd (true≢false (sym (same.on a u b first.0 (same.back b u clash.0)) ∙ apart))

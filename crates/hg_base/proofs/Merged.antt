@@ -10,7 +10,7 @@ use Rattle.hg_base.proofs.Members.{IsIn-below}
 use Rattle.hg_base.proofs.Fronts.{apart-one, joined-step_with}
 use Rattle.hg_base.proofs.Leaving.{xor, leaves, row-same, xor_cases}
 use Rattle.hg_base.proofs.Next.{IsFirst, IsFirst-one, next-first, component-stays}
-use Rattle.hg_base.proofs.Firsts.{IsUpTo, IsBefore, first-quiet, first-agree, first-more, first-lower}
+use Rattle.hg_base.proofs.Firsts.{IsUpTo, IsBefore, IsBefore-sooner, first-quiet, first-agree, first-more, first-lower}
 use Rattle.hg_base.proofs.Splice.{leaves-apart, next-joined}
 
 -- e, its list and a rank k above e's by which e's ends aren't joined yet, and x is joined to one of them
@@ -68,10 +68,6 @@ merged-none e s x k m hu hv =
           [ inl one ↦ hv f i one | inr neither ↦ absurd (xor-none _ _ other neither t) ]
     ])
 
-sooner : (q : Option ListedEdge) (m n : ℕ) → m < n → IsBefore q n → IsBefore q m
-sooner None m n lt h = tt
-sooner (Some g) m n lt h = omega arith
-
 -- f is the first to leave the first end's component, and comes before all that leaves the other's
 merged-left : (e : ListedEdge) (s : EdgeList) (x k : ℕ) → Merging e s x k → (f : ListedEdge) (q : Option ListedEdge) →
     IsFirst (leaves s e.u) s k (Some f) → IsFirst (leaves s e.v) s k q → IsBefore q f.rank → next (e ∷ s) x k ≡ Some f
@@ -79,7 +75,7 @@ merged-left e s x k m f q hu hv before =
     merged-first e s x k m (Some f)
     (λ j to g i low top. (
       first-quiet (leaves s e.u) s k (Some f) hu g i low (omega arith),
-      first-quiet (leaves s e.v) s k q hv g i low (sooner q g.rank f.rank (omega arith) before),
+      first-quiet (leaves s e.v) s k q hv g i low (IsBefore-sooner q g.rank f.rank (omega arith) before),
     )) (
       (hu.0.0, (rw (hu.0.1.0, first-quiet (leaves s e.v) s k q hv f hu.0.0 hu.0.1.1 before) refl, hu.0.1.1)),
       λ g i t up. elim (cases_order g.rank f.rank) [
@@ -87,7 +83,7 @@ merged-left e s x k m f q hu hv before =
         | inr other ↦ elim other [
           | inl low ↦ absurd (xor-none _ _
               (first-quiet (leaves s e.u) s k (Some f) hu g i up low)
-              (first-quiet (leaves s e.v) s k q hv g i up (sooner q g.rank f.rank low before)) t)
+              (first-quiet (leaves s e.v) s k q hv g i up (IsBefore-sooner q g.rank f.rank low before)) t)
           | inr high ↦ omega arith
         ]
       ],
@@ -99,7 +95,7 @@ merged-right : (e : ListedEdge) (s : EdgeList) (x k : ℕ) → Merging e s x k �
 merged-right e s x k m f o hu hv before =
     merged-first e s x k m (Some f)
     (λ j to g i low top. (
-      first-quiet (leaves s e.u) s k o hu g i low (sooner o g.rank f.rank (omega arith) before),
+      first-quiet (leaves s e.u) s k o hu g i low (IsBefore-sooner o g.rank f.rank (omega arith) before),
       first-quiet (leaves s e.v) s k (Some f) hv g i low (omega arith),
     )) (
       (hv.0.0, (rw (hv.0.1.0, first-quiet (leaves s e.u) s k o hu f hv.0.0 hv.0.1.1 before) refl, hv.0.1.1)),
@@ -107,7 +103,7 @@ merged-right e s x k m f o hu hv before =
         | inl level ↦ omega arith
         | inr other ↦ elim other [
           | inl low ↦ absurd (xor-none _ _
-              (first-quiet (leaves s e.u) s k o hu g i up (sooner o g.rank f.rank low before))
+              (first-quiet (leaves s e.u) s k o hu g i up (IsBefore-sooner o g.rank f.rank low before))
               (first-quiet (leaves s e.v) s k (Some f) hv g i up low) t)
           | inr high ↦ omega arith
         ]

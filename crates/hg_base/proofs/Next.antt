@@ -1,12 +1,12 @@
 -- What comes next on the chain of a vertex from a rank on.
 use Rattle.std.proofs.Common.{◌≡◌, ℕ, zero, suc, ◌+◌, ◌-◌, ◌<◌, ◌≤◌, Bool, true, false, cond, inl, inr, refl, sym, ◌∙◌, subst, ap, arith, [], ◌∷◌}
 use Rattle.std.specs.Prelude.{◌&&◌, filter, nat_le, Option, Some, None}
+use Rattle.std.proofs.lemmas.List.Elements.{filter_agree}
 use Rattle.std.proofs.lemmas.Bool.{cases_Bool, leb-true, leb-false, le-leb, true≢false}
 use Rattle.hg_base.specs.Edges.{ListedEdge, EdgeList, IsIn, AreApart, joined, below, link, is_joining, touches, in_order, chain, first_edge, next}
 use Rattle.hg_base.proofs.Link.{IsSame}
 use Rattle.hg_base.proofs.Walks.{IsSame-joined}
 use Rattle.hg_base.proofs.Members.{IsSameSet-in_order, IsIn-filter, IsIn-kept, IsRising, IsRising-filter, IsRising-in_order}
-use Rattle.hg_base.proofs.Sets.{filter-agree}
 use Rattle.hg_base.proofs.Fronts.{apart-one, rank_found, joined-step_with, joined-step_without}
 use Rattle.hg_base.proofs.Leaving.{xor, leaves, joins_touching, link-same, link-elsewhere}
 
@@ -23,8 +23,7 @@ filter-filter p q (e ∷ s) =
 pub chain-leaves : (s : EdgeList) (x : ℕ) → chain s x ≡ filter (leaves s x) (in_order s)
 chain-leaves s x =
     filter-filter (touches s x) (is_joining s) (in_order s)
-    ∙ filter-agree (λ e. is_joining s e && touches s x e) (leaves s x) (in_order s)
-    (λ e. joins_touching (joined (below s e.rank)) (IsSame-joined (below s e.rank)) x e.u e.v)
+    ∙ filter_agree (λ e. is_joining s e && touches s x e) (leaves s x) (λ e. joins_touching (joined (below s e.rank)) (IsSame-joined (below s e.rank)) x e.u e.v) (in_order s)
 
 -- o is the edge of least rank, from rank k on, that is in s and passes the test; None where there is none
 abbrev pub IsFirst : (ListedEdge → Bool) → EdgeList → ℕ → Option ListedEdge → Type 0

@@ -79,11 +79,6 @@ slice_get-some [] i h = absurd (omega arith)
 slice_get-some (x ∷ xs) zero h = (x, refl)
 slice_get-some (x ∷ xs) (suc i) h = slice_get-some xs i (omega arith)
 
-pub slice_get-less : {X : Type 0} (xs : List X) (i : ℕ) (x : X) → slice_get xs i ≡ Some x → i < length xs
-slice_get-less [] i x h = absurd (cc)
-slice_get-less (y ∷ xs) zero x h = omega arith
-slice_get-less (y ∷ xs) (suc i) x h = let rest : i < length xs = slice_get-less xs i x h in omega arith
-
 -- edges of one place are one
 pub place-one : (s : EdgeList) → AreApart s → (e f : ListedEdge) → IsIn e (joins s) → IsIn f (joins s) → place s e ≡ place s f → e ≡ f
 place-one s h e f i j same =

@@ -1,11 +1,11 @@
 -- The path of a leaf in the tree of an edge list: the leaf, and the nodes that the edges of its chain make.
-use Rattle.std.proofs.Common.{◌≡◌, ℕ, zero, suc, ◌+◌, ◌<◌, ◌≤◌, true, false, ◌⊎◌, inl, inr, refl, sym, ◌∙◌, subst, ap, arith}
+use Rattle.std.proofs.Common.{◌≡◌, ℕ, zero, suc, ◌+◌, ◌<◌, ◌≤◌, true, ◌⊎◌, inl, inr, refl, sym, ◌∙◌, subst, ap, arith}
 use Rattle.std.specs.Prelude.{Option, Some, None, not}
-use Rattle.std.proofs.lemmas.Bool.{cases_order, true≢false}
+use Rattle.std.proofs.lemmas.Bool.{false_from_ne_true, cases_order, true≢false}
 use Rattle.hg_base.specs.Edges.{ListedEdge, EdgeList, IsIn, AreApart, joined, below, is_joining, joins, next}
 use Rattle.hg_base.specs.Tree.{parent, ancestor, IsAbove, place, node_or, tree_of}
 use Rattle.hg_base.proofs.Walks.{IsSame-joined}
-use Rattle.hg_base.proofs.Sets.{same_test, IsIn-joins}
+use Rattle.hg_base.proofs.Sets.{IsIn-joins}
 use Rattle.hg_base.proofs.Fronts.{apart-one}
 use Rattle.hg_base.proofs.Leaving.{leaves, xor_cases}
 use Rattle.hg_base.proofs.Next.{IsFirst, next-first}
@@ -16,12 +16,10 @@ use Rattle.hg_base.proofs.Nodes.{parent-leaf, parent-inner}
 pub leaving-joins : (s : EdgeList) (x : ℕ) (e : ListedEdge) → leaves s x e ≡ true → is_joining s e ≡ true
 leaving-joins s x e t =
     let r = IsSame-joined (below s e.rank) in
-    ap not (same_test (joined (below s e.rank) e.u e.v) false
-    (λ k. absurd (elim (xor_cases (joined (below s e.rank) x e.u) (joined (below s e.rank) x e.v) t) [
+    ap not (false_from_ne_true (joined (below s e.rank) e.u e.v) (λ k. elim (xor_cases (joined (below s e.rank) x e.u) (joined (below s e.rank) x e.v) t) [
       | inl p ↦ true≢false (sym (r.on x e.u e.v p.0 k) ∙ p.1)
       | inr p ↦ true≢false (sym (r.on x e.v e.u p.1 (r.back e.u e.v k)) ∙ p.0)
     ]))
-    (λ k. absurd (true≢false (sym k))))
 
 -- y is on the path where it is the leaf, or the node of an edge that leaves the leaf's component
 pub record IsMadeBy (n : ℕ) (s : EdgeList) (y i : ℕ) (e : ListedEdge) : Type 0 where

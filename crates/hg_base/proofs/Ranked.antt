@@ -3,7 +3,7 @@ use Rattle.std.proofs.Common.{◌≡◌, ℕ, zero, suc, ◌+◌, ◌<◌, ◌�
 use Rattle.std.specs.Prelude.{Option, Some, slice_get}
 use Rattle.std.specs.Option.{option_map_or}
 use Rattle.std.specs.List.{range_with_len}
-use Rattle.std.proofs.lemmas.Bool.{cases_order, or_left, lt-ltb}
+use Rattle.std.proofs.lemmas.Bool.{cases_order}
 use Rattle.std.proofs.lemmas.Option.{get_or_from_slice_get}
 use Rattle.hg_base.specs.declared.graph.Edge.{Edge}
 use Rattle.hg_base.specs.Graph.{WeightedGraph, IsGraph, JoinsTwo, first_end, second_end, weight}
@@ -11,7 +11,7 @@ use Rattle.hg_base.specs.Edges.{ListedEdge, IsIn, AreApart, AreWithin}
 use Rattle.hg_base.specs.Rank.{number_at, rank, listed, ranked}
 use Rattle.hg_base.specs.Saliency.{AreByWeight}
 use Rattle.hg_base.proofs.Nodes.{slice_get-some}
-use Rattle.hg_base.proofs.Ranks.{number_at-below, number_at-rank, rank-number_at, rank-below, rank-lt}
+use Rattle.hg_base.proofs.Ranks.{number_at-below, number_at-rank, rank-below, weight-rises}
 
 -- what is in the values of a function at the numbers from a on
 IsIn-values : {X : Type 0} (f : ℕ → X) (a n : ℕ) (x : X) → IsIn x (map f (range_with_len a n)) → (k : ℕ) × ((a ≤ k) × ((k < a + n) × (f k ≡ x)))
@@ -82,22 +82,10 @@ pub AreByWeight-ranked : (g : WeightedGraph) → AreByWeight (ranked g)
 AreByWeight-ranked g e f i j lt =
     let ae = ranked-at g e i in
     let af = ranked-at g f j in
-    let le : e.rank < length g.edges = ae.0 in
-    let lf : f.rank < length g.edges = af.0 in
     let we : e.weight ≡ weight g (number_at g e.rank) = ap (λ (x : ListedEdge). x.weight) ae.1 in
     let wf : f.weight ≡ weight g (number_at g f.rank) = ap (λ (x : ListedEdge). x.weight) af.1 in
-    let re : rank g (number_at g e.rank) ≡ e.rank = rank-number_at g e.rank le in
-    let rf : rank g (number_at g f.rank) ≡ f.rank = rank-number_at g f.rank lf in
-    elim (cases_order f.weight e.weight) [
-      | inl level ↦ omega arith
-      | inr other ↦ elim other [
-        | inl lighter ↦ absurd (let less : rank g (number_at g f.rank) < rank g (number_at g e.rank) =
-            rank-lt g (number_at g e.rank) (number_at g f.rank) (number_at-below g f.rank (omega arith))
-            (or_left _ _ (lt-ltb (weight g (number_at g f.rank)) (weight g (number_at g e.rank)) (omega arith))) in
-            omega arith)
-        | inr heavier ↦ omega arith
-      ]
-    ]
+    let rises : weight g (number_at g e.rank) ≤ weight g (number_at g f.rank) = weight-rises g e.rank f.rank (omega arith) af.0 in
+    omega arith
 
 -- each edge of a graph is in its ranked list
 pub IsIn-ranked : (g : WeightedGraph) (e : ℕ) → e < length g.edges → IsIn (listed g (rank g e) e) (ranked g)

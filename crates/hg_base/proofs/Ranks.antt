@@ -1,8 +1,8 @@
 -- Ranks and edge numbers stand in one-to-one correspondence.
-use Rattle.std.proofs.Common.{◌≡◌, ℕ, ◌<◌, ◌==◌, inl, inr, Bool, true, false, ◌&&◌, ◌||◌, length, get_or, unwrap_or, nat_lt, refl, ap, ◌∙◌, arith}
+use Rattle.std.proofs.Common.{◌≡◌, ℕ, ◌<◌, ◌≤◌, ◌==◌, inl, inr, Bool, true, false, ◌&&◌, ◌||◌, length, get_or, unwrap_or, nat_lt, refl, ap, ◌∙◌, arith}
 use Rattle.std.specs.List.{position_or_len}
 use Rattle.std.proofs.lemmas.Bool.Decides.{nat_tests}
-use Rattle.std.proofs.lemmas.Bool.{eqb-true, eq-eqb, eqb-false, ne_eqb, cases_lt}
+use Rattle.std.proofs.lemmas.Bool.{eqb-true, eq-eqb, eqb-false, ne_eqb, cases_lt, lt-ltb, or_left}
 use Rattle.std.proofs.lemmas.List.{get_or_past}
 use Rattle.std.proofs.lemmas.List.FromFn.{length-range_with_len, get_or-range_with_len}
 use Rattle.std.proofs.lemmas.List.Folds.{find_at}
@@ -93,3 +93,13 @@ rank-number_at g k h =
           let off = fails_before_first (λ e'. rank g e' == k) (numbers g) e 0 (omega (arith, past, l)) in
           eqb-false (rank g e) k (rw (get_or-numbers g e 0 l) at off) same))
     ])
+
+-- a lower rank has no greater weight
+pub weight-rises : (g : WeightedGraph) (i j : ℕ) → i ≤ j → j < length g.edges → weight g (number_at g i) ≤ weight g (number_at g j)
+weight-rises g i j up h = elim (cases_lt (weight g (number_at g j)) (weight g (number_at g i))) [
+  | inl lighter ↦
+      let before : comes_before g (number_at g i) (number_at g j) ≡ true = or_left _ _ (lt-ltb (weight g (number_at g j)) (weight g (number_at g i)) lighter) in
+      let less = rank-lt g (number_at g i) (number_at g j) (number_at-below g j (omega arith)) before in
+      absurd (omega (arith, less, rank-number_at g i (omega arith), rank-number_at g j h))
+  | inr rises ↦ rises
+]

@@ -1,9 +1,10 @@
 -- Who is joined, which edges join and the chains depend on the set of edges alone.
-use Rattle.std.proofs.Common.{◌≡◌, ℕ, ◌<◌, ◌≤◌, Bool, true, false, refl, sym, ◌∙◌, ap, arith, List, [], ◌∷◌}
+use Rattle.std.proofs.Common.{◌≡◌, ℕ, ◌<◌, ◌≤◌, Bool, true, false, refl, sym, ◌∙◌, ap, arith}
 use Rattle.std.specs.Prelude.{not, filter}
-use Rattle.hg_base.specs.Edges.{ListedEdge, EdgeList, IsIn, AreApart, IsWalk, joined, below, in_order, is_joining, joins, touches, chain, next}
+use Rattle.std.proofs.lemmas.List.Elements.{filter_agree}
+use Rattle.hg_base.specs.Edges.{ListedEdge, EdgeList, IsIn, AreApart, joined, below, in_order, is_joining, joins, touches, chain, next}
 use Rattle.hg_base.proofs.Members.{IsSameSet, IsSameSet-below, IsSameSet-in_order, IsIn-below, IsIn-below_kept, IsIn-filter, IsIn-kept, IsRising, IsRising-filter, IsRising-in_order, rising-same}
-use Rattle.hg_base.proofs.Walks.{joined-walk, Joined-joined}
+use Rattle.hg_base.proofs.Walks.{walk-among, joined-walk, Joined-joined}
 
 -- two tests are one where each answers true when the other does
 pub same_test : (a b : Bool) → (a ≡ true → b ≡ true) → (b ≡ true → a ≡ true) → a ≡ b
@@ -11,11 +12,6 @@ same_test true true f g = refl
 same_test true false f g = sym (f refl)
 same_test false true f g = g refl
 same_test false false f g = refl
-
--- a walk stays a walk among more edges
-pub walk-among : (s t : EdgeList) → ((e : ListedEdge) → IsIn e s → IsIn e t) → (x : ℕ) (zs : List ℕ) (y : ℕ) → IsWalk s x zs y → IsWalk t x zs y
-walk-among s t more x [] y w = w
-walk-among s t more x (z ∷ zs) y w = ((w.0.0, (more w.0.0 w.0.1.0, w.0.1.1)), walk-among s t more z zs y w.1)
 
 -- who is joined stays joined among more edges
 pub joined-among : (s t : EdgeList) (x y : ℕ) → ((e : ListedEdge) → IsIn e s → IsIn e t) → joined s x y ≡ true → joined t x y ≡ true
@@ -47,15 +43,10 @@ in_order-same s t hs ht h = rising-same (in_order s) (in_order t) (IsRising-in_o
       back = λ e i. (IsSameSet-in_order s).on e (h.back e ((IsSameSet-in_order t).back e i));
     })
 
--- filters by tests that agree keep the same
-pub filter-agree : (p q : ListedEdge → Bool) (s : EdgeList) → ((e : ListedEdge) → p e ≡ q e) → filter p s ≡ filter q s
-filter-agree p q [] h = refl
-filter-agree p q (e ∷ s) h = rw (h e, filter-agree p q s h)
-
 -- the joining edges depend on the set of edges alone
 pub joins-same : (s t : EdgeList) → AreApart s → AreApart t → IsSameSet s t → joins s ≡ joins t
 joins-same s t hs ht h =
-    filter-agree (is_joining s) (is_joining t) (in_order s) (λ e. is_joining-same s t e h)
+    filter_agree (is_joining s) (is_joining t) (λ e. is_joining-same s t e h) (in_order s)
     ∙ ap (filter (is_joining t)) (in_order-same s t hs ht h)
 
 pub touches-same : (s t : EdgeList) (x : ℕ) (e : ListedEdge) → IsSameSet s t → touches s x e ≡ touches t x e
@@ -64,7 +55,7 @@ touches-same s t x e h = rw (joined_below-same s t e.rank x e.u h, joined_below-
 -- the chain of a vertex depends on the set of edges alone
 pub chain-same : (s t : EdgeList) (x : ℕ) → AreApart s → AreApart t → IsSameSet s t → chain s x ≡ chain t x
 chain-same s t x hs ht h =
-    filter-agree (touches s x) (touches t x) (joins s) (λ e. touches-same s t x e h)
+    filter_agree (touches s x) (touches t x) (λ e. touches-same s t x e h) (joins s)
     ∙ ap (filter (touches t x)) (joins-same s t hs ht h)
 
 pub next-same : (s t : EdgeList) (x k : ℕ) → AreApart s → AreApart t → IsSameSet s t → next s x k ≡ next t x k

@@ -1,7 +1,7 @@
 -- Two edge lists over vertices that lie apart, put side by side: nothing changes on either side.
 use Rattle.std.proofs.Common.{◌≡◌, ℕ, Bool, true, false, ◌⊎◌, inl, inr, refl, sym, ◌∙◌, subst, ap, List, [], ◌∷◌, ◌++◌}
 use Rattle.std.specs.Prelude.{not, nat_lt}
-use Rattle.std.proofs.lemmas.Bool.{true≢false}
+use Rattle.std.proofs.lemmas.Bool.{false_from_ne_true, true≢false}
 use Rattle.std.proofs.lemmas.List.Elements.{filter-append}
 use Rattle.std.proofs.lemmas.List.{append-nil}
 use Rattle.hg_base.specs.Edges.{ListedEdge, EdgeList, IsIn, AreEnds, AreApart, IsSameSet, IsWalk, joined, below, chain}
@@ -69,9 +69,7 @@ leaves-inside p s t b x px f =
 -- inside edges join an inside vertex to no outside one
 never-out : (p : ℕ → Bool) (s t : EdgeList) → SideBySide p s t → (x : ℕ) → p x ≡ true → (k y : ℕ) → p y ≡ false → joined (below s k) x y ≡ false
 never-out p s t b x px k y out =
-    same_test (joined (below s k) x y) false
-    (λ j. absurd (true≢false (sym (joined-stays_in p (below s k) (λ e i. b.inside e (IsIn-below_kept e s k i).0) x y px j) ∙ out)))
-    (λ j. absurd (true≢false (sym j)))
+    false_from_ne_true (joined (below s k) x y) (λ j. true≢false (sym (joined-stays_in p (below s k) (λ e i. b.inside e (IsIn-below_kept e s k i).0) x y px j) ∙ out))
 
 -- what leaves the component of an inside vertex is inside
 leaving-inside : (p : ℕ → Bool) (s t : EdgeList) → SideBySide p s t → (x : ℕ) → p x ≡ true → (f : ListedEdge) → IsIn f (s ++ t) → leaves (s ++ t) x f ≡ true → IsIn f s

@@ -1,13 +1,13 @@
 -- The splice: what comes next on each chain after an edge e of any rank is taken in.
 use Rattle.std.proofs.Common.{◌≡◌, ℕ, suc, ◌<◌, ◌≤◌, Bool, true, false, cond, inl, inr, refl, sym, ◌∙◌, subst, ap, arith, ◌∷◌}
-use Rattle.std.specs.Prelude.{◌||◌, Option, Some, None}
+use Rattle.std.specs.Prelude.{◌||◌, Option, Some}
 use Rattle.std.proofs.lemmas.Bool.{cases_Bool, cases_order, le-ltb, lt-ltb, true≢false}
 use Rattle.hg_base.specs.Edges.{ListedEdge, EdgeList, IsIn, AreApart, joined, below, link, next}
 use Rattle.hg_base.proofs.Walks.{IsSame-joined}
 use Rattle.hg_base.proofs.Sets.{joined_below-more}
 use Rattle.hg_base.proofs.Leaving.{xor, leaves, xor-link, link-same}
 use Rattle.hg_base.proofs.Next.{IsFirst, IsFirst-one, next-first, component-stays}
-use Rattle.hg_base.proofs.Firsts.{IsUpTo, IsBefore, first-quiet, first-agree, first-more, first-before, first-lower}
+use Rattle.hg_base.proofs.Firsts.{IsUpTo, IsBefore, IsBefore-sooner, IsBefore-below, first-quiet, first-agree, first-more, first-before, first-lower}
 
 -- up to e's rank the edges of lower rank are as before
 pub below-low : (e : ListedEdge) (s : EdgeList) (k : ℕ) → k ≤ e.rank → below (e ∷ s) k ≡ below s k
@@ -62,13 +62,9 @@ next-elsewhere e s h x k low nu nv =
     (first-more (leaves (e ∷ s) x) e s k (next s x k) low
     (first-agree (leaves s x) (leaves (e ∷ s) x) s k (next s x k) agree (next-first s h.1 x k)))
   where
-    before_up_to : (o : Option ListedEdge) (m n : ℕ) → m < n → IsUpTo o n → IsBefore o m
-    before_up_to None m n lt to = tt
-    before_up_to (Some g) m n lt to = omega arith
-
     stays : (f : ListedEdge) → k ≤ f.rank → IsUpTo (next s x k) f.rank → (y : ℕ) → joined (below s f.rank) x y ≡ joined (below s k) x y
     stays f up to y = component-stays s h.1 k f.rank x y up
-        (λ g i low' top. first-quiet (leaves s x) s k (next s x k) (next-first s h.1 x k) g i low' (before_up_to (next s x k) g.rank f.rank top to))
+        (λ g i low' top. first-quiet (leaves s x) s k (next s x k) (next-first s h.1 x k) g i low' (IsBefore-below (next s x k) g.rank f.rank top to))
 
     agree : (f : ListedEdge) → IsIn f s → k ≤ f.rank → IsUpTo (next s x k) f.rank → leaves (e ∷ s) x f ≡ leaves s x f
     agree f i up to =
@@ -96,11 +92,7 @@ none-before : (e : ListedEdge) (s : EdgeList) → AreApart (e ∷ s) → (x k : 
     (f : ListedEdge) → IsIn f s → k ≤ f.rank → f.rank < e.rank → leaves (e ∷ s) x f ≡ false
 none-before e s h x k none' f i up low =
     leaves-low e s x f (omega arith)
-    ∙ first-quiet (leaves s x) s k (next s x k) (next-first s h.1 x k) f i up (before_sooner (next s x k) f.rank e.rank low none')
-  where
-    before_sooner : (o : Option ListedEdge) (m n : ℕ) → m < n → IsBefore o n → IsBefore o m
-    before_sooner None m n lt b = tt
-    before_sooner (Some g) m n lt b = omega arith
+    ∙ first-quiet (leaves s x) s k (next s x k) (next-first s h.1 x k) f i up (IsBefore-sooner (next s x k) f.rank e.rank low none')
 
 -- Where e is the first to leave x's component, it comes next.
 pub next-at : (e : ListedEdge) (s : EdgeList) → AreApart (e ∷ s) → (x k : ℕ) → k ≤ e.rank → ComesNoneBefore e s x k → leaves s x e ≡ true →

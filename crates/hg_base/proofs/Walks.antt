@@ -40,10 +40,10 @@ joined-walk s x [] y w = subst (λ (a : ℕ). joined s x a ≡ true) w ((IsSame-
 joined-walk s x (z ∷ zs) y w =
     (IsSame-joined s).on x z y (joined-step s w.0.0 x z w.0.1.0 w.0.1.1) (joined-walk s z zs y w.1)
 
--- a walk stays a walk when an edge is added
-walk-more : (f : ListedEdge) (s : EdgeList) (x : ℕ) (zs : List ℕ) (y : ℕ) → IsWalk s x zs y → IsWalk (f ∷ s) x zs y
-walk-more f s x [] y w = w
-walk-more f s x (z ∷ zs) y w = ((w.0.0, (inr w.0.1.0, w.0.1.1)), walk-more f s z zs y w.1)
+-- a walk stays a walk among more edges
+pub walk-among : (s t : EdgeList) → ((e : ListedEdge) → IsIn e s → IsIn e t) → (x : ℕ) (zs : List ℕ) (y : ℕ) → IsWalk s x zs y → IsWalk t x zs y
+walk-among s t more x [] y w = w
+walk-among s t more x (z ∷ zs) y w = ((w.0.0, (more w.0.0 w.0.1.0, w.0.1.1)), walk-among s t more z zs y w.1)
 
 -- two walks, one after the other
 pub Joined-on : (s : EdgeList) (x : ℕ) (zs : List ℕ) (y z : ℕ) → IsWalk s x zs y → Joined s y z → Joined s x z
@@ -54,15 +54,15 @@ Joined-on s x (a ∷ zs) y z w j =
 -- from x to one end of f, over it, and on from the other end
 Joined-over : (f : ListedEdge) (s : EdgeList) (x a b y : ℕ) → AreEnds f a b → Joined s x a → Joined s b y → Joined (f ∷ s) x y
 Joined-over f s x a b y ends to on =
-    Joined-on (f ∷ s) x to.0 a y (walk-more f s x to.0 a to.1)
-    (b ∷ on.0, ((f, (inl refl, ends)), walk-more f s b on.0 y on.1))
+    Joined-on (f ∷ s) x to.0 a y (walk-among s (f ∷ s) (λ _ i. inr i) x to.0 a to.1)
+    (b ∷ on.0, ((f, (inl refl, ends)), walk-among s (f ∷ s) (λ _ i. inr i) b on.0 y on.1))
 
 -- where the test says so, a walk leads
 pub Joined-joined : (s : EdgeList) (x y : ℕ) → joined s x y ≡ true → Joined s x y
 Joined-joined [] x y h = ([], eqb-true x y h)
 Joined-joined (f ∷ s) x y h =
     elim (link_cases (joined s) f.u f.v x y h) [
-      | inl old ↦ (let w = Joined-joined s x y old in (w.0, walk-more f s x w.0 y w.1))
+      | inl old ↦ (let w = Joined-joined s x y old in (w.0, walk-among s (f ∷ s) (λ _ i. inr i) x w.0 y w.1))
       | inr new ↦ elim new [
         | inl p ↦ Joined-over f s x f.u f.v y (inl (refl, refl)) (Joined-joined s x f.u p.0) (Joined-joined s f.v y p.1)
         | inr p ↦ Joined-over f s x f.v f.u y (inr (refl, refl)) (Joined-joined s x f.v p.0) (Joined-joined s f.u y p.1)

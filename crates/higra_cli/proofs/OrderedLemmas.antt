@@ -1,24 +1,13 @@
 -- The weights of a graph's edges don't fall in order of rank.
-use Rattle.std.proofs.Common.{◌≡◌, ℕ, ◌<◌, ◌≤◌, inl, inr, true, List, length, get_or, sym, ap, ◌∙◌, subst, arith}
-use Rattle.std.proofs.lemmas.Bool.{cases_lt, lt-ltb, or_left}
+use Rattle.std.proofs.Common.{◌≡◌, ℕ, ◌<◌, List, length, get_or, sym, ap, ◌∙◌, subst, arith}
 use Rattle.std.proofs.lemmas.List.{get_or-map, length-map}
 use Rattle.std.proofs.lemmas.List.FromFn.{length-map-range_with_len, get_or-map-range_with_len}
 use Rattle.std.specs.List.Sorted.{IsNonDecreasingBy}
-use Rattle.hg_base.specs.Graph.{WeightedGraph, weight}
-use Rattle.hg_base.specs.Rank.{comes_before, number_at, listed, ranked}
-use Rattle.hg_base.proofs.Ranks.{number_at-below, rank-lt, rank-number_at}
+use Rattle.hg_base.specs.Graph.{WeightedGraph}
+use Rattle.hg_base.specs.Rank.{number_at, listed, ranked}
+use Rattle.hg_base.proofs.Ranks.{weight-rises}
 use Rattle.partition_tree.specs.declared.list.Ranked.{Ranked}
 use Rattle.higra_cli.specs.Ordered.{altitude, tree_edge, tree_edges}
-
--- a lower rank has no greater weight
-pub weight-rises : (g : WeightedGraph) (i j : ℕ) → i ≤ j → j < length g.edges → weight g (number_at g i) ≤ weight g (number_at g j)
-weight-rises g i j up h = elim (cases_lt (weight g (number_at g j)) (weight g (number_at g i))) [
-  | inl lighter ↦
-      let before : comes_before g (number_at g i) (number_at g j) ≡ true = or_left _ _ (lt-ltb (weight g (number_at g j)) (weight g (number_at g i)) lighter) in
-      let less = rank-lt g (number_at g i) (number_at g j) (number_at-below g j (omega arith)) before in
-      absurd (omega (arith, less, rank-number_at g i (omega arith), rank-number_at g j h))
-  | inr rises ↦ rises
-]
 
 -- there are as many edges in the list as in the graph
 pub length-tree_edges : (g : WeightedGraph) → length (tree_edges g) ≡ length g.edges

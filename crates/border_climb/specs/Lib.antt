@@ -2,3 +2,4 @@ pub mod Slots
 pub mod Given
 pub mod Chains
 pub mod PartFields
+pub mod Stands

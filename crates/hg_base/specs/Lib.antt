@@ -10,3 +10,4 @@ pub mod Worked
 pub mod Text
 pub mod Fault
 pub mod Outside
+pub mod Placed

@@ -1,0 +1,13 @@
+/// The cell of an edge: the edge's rank, and the number of the cell above it, if there is one.
+#[derive(Clone, Copy, Debug, PartialEq, Eq)]
+pub struct Cell {
+    pub rank: u32,
+    pub up: Option<u32>,
+}
+
+/// Where to look for a cell further up: a number, and which of the cells that had this number in turn is meant.
+#[derive(Clone, Copy, Debug, PartialEq, Eq)]
+pub struct Hint {
+    pub cell: u32,
+    pub turn: u32,
+}

@@ -11,3 +11,5 @@ pub mod Text
 pub mod Fault
 pub mod Outside
 pub mod Placed
+pub mod Labels
+pub mod LabelsFields

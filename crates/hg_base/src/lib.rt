@@ -4,6 +4,7 @@
 mod fault;
 mod gate;
 mod graph;
+mod labels;
 pub mod laws;
 mod memory;
 mod outside;
@@ -15,6 +16,7 @@ mod worked;
 pub use fault::{Failed, FaultKind, InputFault, OutOfMemory, ReadError};
 pub use gate::{Gate, GateEvent, OpenGate};
 pub use graph::{Edge, Graph, PlacedEdge, RankedEdge, Room};
+pub use labels::Labels;
 pub use memory::{MemSink, MemSource, QuietSource, TallySink};
 pub use outside::{Sink, Source, write_all};
 pub use standard::{StdSink, StdSource};

@@ -31,3 +31,8 @@ pub returns-clause-number : goal.returns-clause-number
 returns-clause-number c =
     let found = below-start c.args.self.now.first c.args.self.now.chunks.items c.args.self.now.in_row _ c.index-2.result.now (omega (arith, c.loop-high.invariant)) c.index-2.ensures in
     omega (arith, found, c.loop-high.invariant)
+
+pub returns-clause-within : goal.returns-clause-within
+returns-clause-within c =
+    let found = below-start c.args.self.now.first c.args.self.now.chunks.items c.args.self.now.in_row _ c.index-2.result.now (omega (arith, c.loop-high.invariant)) c.index-2.ensures in
+    omega (arith, found, c.loop-high.invariant, c.requires.below, c.args.self.now.counted)

@@ -19,7 +19,7 @@ pub entry-set_other : {X : Type 0} (first : ℕ) (xs : List (Option X)) (id i : 
 entry-set_other first xs id i y low here other =
     entry-is first (set xs (id - first) y) i here ∙ get_or-set_other xs (id - first) (i - first) y None (λ same. other (omega arith)) ∙ sym (entry-is first xs i here)
 
-nothing-is_not : {X : Type 0} (o : Option X) → o ≡ None → IsSome o → ⊥
+pub nothing-is_not : {X : Type 0} (o : Option X) → o ≡ None → IsSome o → ⊥
 nothing-is_not None none some = cc
 nothing-is_not (Some x) none some = cc
 

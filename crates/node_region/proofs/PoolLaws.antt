@@ -13,15 +13,18 @@ use Rattle.node_region.specs.declared.cell.Cell.{Cell}
 use Rattle.node_region.specs.declared.cell.Hint.{Hint}
 use Rattle.node_region.specs.Pool.{CellPool, IsPool, IsCovered, IsUsed, IsNextTo, AreDifferent, count, cell_at, entry, fresh_pool, with_cell, with_taken, with_given_back, with_leaf, with_hint, with_finger, appended, next_turn, turn_of}
 use Rattle.node_region.proofs.Threads.{rising-from, rising-in, rising-different, different-append}
-use Rattle.node_region.proofs.Entries.{entry-is, entry-set_same, entry-set_other, entry-covered, entry-append_left, entry-append_right}
+use Rattle.node_region.proofs.Entries.{entry-is, entry-set_same, entry-set_other, entry-covered, nothing-is_not, entry-append_left, entry-append_right}
 
 -- a number that has a cell is one of the range
 pub used-covered : (p : CellPool) (id : ℕ) → IsUsed p id → IsCovered p id
 used-covered p id used = entry-covered p.first p.cells id used
 
+pub used-none : (p : CellPool) (id : ℕ) → IsUsed p id → cell_at p id ≡ None → ⊥
+used-none p id used none = nothing-is_not (cell_at p id) none used
+
 -- no free number has a cell
 pub used-not_free : (p : CellPool) → IsPool p → (id : ℕ) → IsUsed p id → IsIn id p.free → ⊥
-used-not_free p h id used free = let none = h.free_has_no_cell id free in subst (λ o. IsSome o → ⊥) (sym none) (λ s. cc) used
+used-not_free p h id used free = used-none p id used (h.free_has_no_cell id free)
 
 none-no : (o : Option Cell) → IsSome o → is_none o ≡ false
 none-no None some = cc

@@ -66,6 +66,7 @@ impl Tables {
         ensures at { IsAt self.now.chunks.items result }
         ensures number { self.now.first + number_at self.now.chunks.items result ≡ id }
         ensures within { number_at self.now.chunks.items result < length (slots_of self.now.chunks.items) }
+        ensures within_places { number_at self.now.chunks.items result < length (places_of self.now.chunks.items) }
     {
         let mut low = 0;
         let mut high = self.chunks.len();

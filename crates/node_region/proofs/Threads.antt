@@ -47,6 +47,17 @@ pub thread-kept : (first : ℕ) (l m : List ℕ) (k h : ℕ) → TellSame first 
 thread-kept first l m zero h same = refl
 thread-kept first l m (suc k) h same = thread-same first l m k h (λ i is. same i (thread-longer first l k h i is))
 
+-- the same for numbers of another range
+pub thread-moved : (first from : ℕ) (l m : List ℕ) (k h : ℕ) → ((i : ℕ) → IsIn i (thread first l k h) → next_of from m i ≡ next_of first l i) → thread from m k h ≡ thread first l k h
+thread-moved first from l m zero h same = refl
+thread-moved first from l m (suc k) h same =
+    rw (same h (inl refl)) (ap (λ is. h ∷ is) (thread-moved first from l m k (next_of first l h) (λ i is. same i (inr is))))
+
+pub told-moved : (first from : ℕ) (l m : List ℕ) (k h : ℕ) → ((i : ℕ) → IsIn i (thread first l k h) → next_of from m i ≡ next_of first l i) → told_after from m k h ≡ told_after first l k h
+told-moved first from l m zero h same = refl
+told-moved first from l m (suc k) h same =
+    rw (same h (inl refl)) (told-moved first from l m k (next_of first l h) (λ i is. same i (inr is)))
+
 -- a list is the numbers up to one, and those from the number that it tells on
 pub thread-split : (first : ℕ) (l : List ℕ) (k m h : ℕ) → thread first l (suc (k + m)) h ≡ thread first l (suc k) h ++ thread first l m (next_of first l (told_after first l k h))
 thread-split first l zero m h = rw zero-add refl

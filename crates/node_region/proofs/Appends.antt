@@ -71,7 +71,7 @@ moved-tail r h t tells k more =
     let l = links_in (slots_of r.tables.chunks.items) in
     let long : r.free.count ≡ suc k = omega (arith, more) in
     told-moved r.tables.first t.first l (links_in (slots_of t.chunks.items)) k r.free.head
-        (λ i is. tells i (rw long (thread-longer r.tables.first l k r.free.head i is)))
+    (λ i is. tells i (rw long (thread-longer r.tables.first l k r.free.head i is)))
     ∙ h.tail k more
 
 cells-both : (r q : Inside) (t : Tables) → TablesOfBoth r q t → cells_in (slots_of t.chunks.items) ≡ (pool_of r).cells ++ (pool_of q).cells
@@ -82,13 +82,17 @@ pub both-can_link : (r q : Inside) → IsRegion r → IsRegion q → IsNextTo (p
 both-can_link r q h k n t b =
     let both = appended-pool (pool_of r) (pool_of q) h.pool k.pool n in
     let lists : free_in t.first (slots_of t.chunks.items) r.free ++ free_in t.first (slots_of t.chunks.items) q.free ≡ (pool_of r).free ++ (pool_of q).free =
-        ap (λ xs. xs ++ free_in t.first (slots_of t.chunks.items) q.free) (left-free r q h t b) ∙ ap (λ xs. (pool_of r).free ++ xs) (right-free r q k n t b) in
+    ap (λ xs. xs ++ free_in t.first (slots_of t.chunks.items) q.free) (left-free r q h t b) ∙ ap (λ xs. (pool_of r).free ++ xs) (right-free r q k n t b) in
     let cells = cells-both r q t b in
     let long : length (slots_of t.chunks.items) ≡ length ((pool_of r).cells ++ (pool_of q).cells) = sym (length-map (slots_of t.chunks.items) (λ x. cell_of x.state)) ∙ ap length cells in
     let counted : r.free.count + q.free.count ≡ count_by is_none ((pool_of r).cells ++ (pool_of q).cells) =
-        omega (arith, both.free_count, length-append (pool_of r).free (pool_of q).free,
-            thread-length r.tables.first (links_in (slots_of r.tables.chunks.items)) r.free.count r.free.head,
-            thread-length q.tables.first (links_in (slots_of q.tables.chunks.items)) q.free.count q.free.head) in
+    omega (
+      arith,
+      both.free_count,
+      length-append (pool_of r).free (pool_of q).free,
+      thread-length r.tables.first (links_in (slots_of r.tables.chunks.items)) r.free.count r.free.head,
+      thread-length q.tables.first (links_in (slots_of q.tables.chunks.items)) q.free.count q.free.head,
+    ) in
     record {
       free = λ i is.
           let here = subst (λ (xs : List ℕ). IsIn i xs) lists is in
@@ -157,11 +161,13 @@ fresh-seen first n room some few range some_chunk few_chunks t at slots places o
       turns = ap (λ xs. map (λ x. x.turn) xs) slots ∙ fresh-field (λ x. x.turn) 0 (λ i. refl) first n;
       hints = ap (λ xs. map (λ x. x.hint) xs) slots ∙ fresh-field (λ x. x.hint) None (λ i. refl) first n;
       fingers = ap (λ xs. map (λ x. x.finger) xs) places ∙ fresh-place_field (λ x. x.finger) n;
-    }) in
-    (seen, record {
-      pool = subst (λ p. IsPool p) (sym seen) (fresh_pool-pool first n room some few range some_chunk few_chunks);
-      tail = λ k more.
-          let m : n ≡ k + 1 = sym long ∙ more in
-          rw (at, slots, head) (told-rising first (links_in (fresh_slots first n)) k first (λ i low high. up i low (omega (arith, high, m))) ∙ omega (arith, tail, m));
-      capacity = capacity;
-    })
+    }) in (
+      seen,
+      record {
+        pool = subst (λ p. IsPool p) (sym seen) (fresh_pool-pool first n room some few range some_chunk few_chunks);
+        tail = λ k more.
+            let m : n ≡ k + 1 = sym long ∙ more in
+            rw (at, slots, head) (told-rising first (links_in (fresh_slots first n)) k first (λ i low high. up i low (omega (arith, high, m))) ∙ omega (arith, tail, m));
+        capacity = capacity;
+      },
+    )

@@ -35,26 +35,28 @@ linked first slots front behind k b some more tail behind_tail once from n s y e
     let last : fi ≡ thread first l k front.head ++ front.tail ∷ [] = long ∙ thread-last first l k front.head ∙ ap (λ i. thread first l k front.head ++ i ∷ []) at in
     let in_front : IsIn front.tail fi = subst (λ (xs : List ℕ). IsIn front.tail xs) (sym last) (IsIn-append front.tail (thread first l k front.head) (front.tail ∷ []) (inr (inl refl))) in
     let low : first ≤ front.tail = from front.tail (IsIn-append front.tail fi bi (inl in_front)) in
-    let apart_front : (i : ℕ) → IsIn i (thread first l k front.head) → (first ≤ i) × (i ≢ front.tail) = λ i is.
-        (from i (IsIn-append i fi bi (inl (subst (λ (xs : List ℕ). IsIn i xs) (sym last) (IsIn-append i (thread first l k front.head) (front.tail ∷ []) (inl is))))),
-         λ same. different-apart (thread first l k front.head) (front.tail ∷ []) (subst (λ (xs : List ℕ). AreDifferent xs) last (different-front fi bi once)) i is (inl (sym same))) in
+    let apart_front : (i : ℕ) → IsIn i (thread first l k front.head) → (first ≤ i) × (i ≢ front.tail) = λ i is. (
+      from i (IsIn-append i fi bi (inl (subst (λ (xs : List ℕ). IsIn i xs) (sym last) (IsIn-append i (thread first l k front.head) (front.tail ∷ []) (inl is))))),
+      λ same. different-apart (thread first l k front.head) (front.tail ∷ []) (subst (λ (xs : List ℕ). AreDifferent xs) last (different-front fi bi once)) i is (inl (sym same)),
+    ) in
     let apart_behind : (i : ℕ) → IsIn i bi → (first ≤ i) × (i ≢ front.tail) = λ i is.
-        (from i (IsIn-append i fi bi (inr is)), λ same. different-apart fi bi once i (subst (λ (j : ℕ). IsIn j fi) (sym same) in_front) is) in
+    (from i (IsIn-append i fi bi (inr is)), λ same. different-apart fi bi once i (subst (λ (j : ℕ). IsIn j fi) (sym same) in_front) is) in
     let same_front = others-tell_same first slots n front.tail s y e (thread first l k front.head) apart_front in
     let same_behind = others-tell_same first slots n front.tail s y e bi apart_behind in
     let told : next_of first m front.tail ≡ behind.head = ap (λ x. next_of first x front.tail) (field-written (λ x. link_of x.state) first slots n front.tail s y e)
-        ∙ next-set_same first l front.tail (link_of y.state) low (omega (arith, e.number, e.within, length-map slots (λ x. link_of x.state))) ∙ ap link_of state in
+    ∙ next-set_same first l front.tail (link_of y.state) low (omega (arith, e.number, e.within, length-map slots (λ x. link_of x.state))) ∙ ap link_of state in
     let reached : next_of first m (told_after first m k front.head) ≡ behind.head = ap (λ i. next_of first m i) (told-same first l m k front.head same_front ∙ at) ∙ told in
-    let sum : front.count + behind.count ≡ suc (k + behind.count) = omega (arith, some) in
-    (ap (λ c. thread first m c front.head) sum ∙ thread-split first m k behind.count front.head
-        ∙ ap (λ xs. xs ++ thread first m behind.count (next_of first m (told_after first m k front.head))) (thread-same first l m k front.head same_front ∙ sym long)
-        ∙ ap (λ i. fi ++ thread first m behind.count i) reached
-        ∙ ap (λ xs. fi ++ xs) (thread-kept first l m behind.count behind.head same_behind),
-     λ j total.
-        let there : j ≡ suc (k + b) = omega (arith, total, some, more) in
-        ap (λ c. told_after first m c front.head) there ∙ told-split first m k b front.head ∙ ap (λ i. told_after first m b i) reached
-        ∙ told-same first l m b behind.head (λ i is. same_behind i (rw more (thread-longer first l b behind.head i is)))
-        ∙ behind_tail b (omega (arith, more)))
+    let sum : front.count + behind.count ≡ suc (k + behind.count) = omega (arith, some) in (
+      ap (λ c. thread first m c front.head) sum ∙ thread-split first m k behind.count front.head
+          ∙ ap (λ xs. xs ++ thread first m behind.count (next_of first m (told_after first m k front.head))) (thread-same first l m k front.head same_front ∙ sym long)
+          ∙ ap (λ i. fi ++ thread first m behind.count i) reached
+          ∙ ap (λ xs. fi ++ xs) (thread-kept first l m behind.count behind.head same_behind),
+      λ j total.
+          let there : j ≡ suc (k + b) = omega (arith, total, some, more) in
+          ap (λ c. told_after first m c front.head) there ∙ told-split first m k b front.head ∙ ap (λ i. told_after first m b i) reached
+          ∙ told-same first l m b behind.head (λ i is. same_behind i (rw more (thread-longer first l b behind.head i is)))
+          ∙ behind_tail b (omega (arith, more)),
+    )
 
 -- the tail of a list that isn't empty is one of its numbers
 pub tail-free : (t : Tables) (front behind : FreeList) → CanLink t front behind → front.count ≢ 0 → IsFree t front.tail
@@ -65,7 +67,7 @@ tail-free t front behind can some =
     let more : front.count ≡ suc k = omega (arith, some) in
     let at : told_after first l k front.head ≡ front.tail = can.tail k (omega (arith, more)) in
     let here : IsIn front.tail (free_in first (slots_of t.chunks.items) front) =
-        subst (λ (i : ℕ). IsIn i (free_in first (slots_of t.chunks.items) front)) at (subst (λ (c : ℕ). IsIn (told_after first l k front.head) (thread first l c front.head)) (sym more) (told-in first l k front.head)) in
+    subst (λ (i : ℕ). IsIn i (free_in first (slots_of t.chunks.items) front)) at (subst (λ (c : ℕ). IsIn (told_after first l k front.head) (thread first l c front.head)) (sym more) (told-in first l k front.head)) in
     can.free front.tail (IsIn-append front.tail (free_in first (slots_of t.chunks.items) front) (free_in first (slots_of t.chunks.items) behind) (inl here))
 
 -- the entry of the last number of the first list was written

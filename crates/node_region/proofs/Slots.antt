@@ -43,5 +43,5 @@ pub tail-kept : (first : ℕ) (slots : List Slot) (n id : ℕ) (s y : Slot) → 
 tail-kept first slots n id s y e free apart tail k more =
     let long : free.count ≡ suc k = omega (arith, more) in
     let some = others-tell_same first slots n id s y e (thread first (links_in slots) k free.head)
-        (λ i is. apart i (rw long (thread-longer first (links_in slots) k free.head i is))) in
+    (λ i is. apart i (rw long (thread-longer first (links_in slots) k free.head i is))) in
     told-same first (links_in slots) (links_in (set slots n y)) k free.head some ∙ tail k more

@@ -94,9 +94,10 @@ different-apart (x ∷ xs) ys once i (inr is) js = different-apart xs ys once.1 
 
 pub different-append : (xs ys : List ℕ) → AreDifferent xs → AreDifferent ys → ((i : ℕ) → IsIn i xs → IsIn i ys → ⊥) → AreDifferent (xs ++ ys)
 different-append [] ys once again apart = again
-different-append (x ∷ xs) ys once again apart =
-    (λ is. elim (IsIn-append_back x xs ys is) [ | inl front ↦ once.0 front | inr behind ↦ apart x (inl refl) behind ],
-     different-append xs ys once.1 again (λ i is js. apart i (inr is) js))
+different-append (x ∷ xs) ys once again apart = (
+  λ is. elim (IsIn-append_back x xs ys is) [ inl front ↦ once.0 front | inr behind ↦ apart x (inl refl) behind ],
+  different-append xs ys once.1 again (λ i is js. apart i (inr is) js),
+)
 
 -- a number within a range: all different
 pub rising-from : (a n i : ℕ) → IsIn i (range_with_len a n) → (a ≤ i) × (i < a + n)

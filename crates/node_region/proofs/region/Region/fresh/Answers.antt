@@ -7,11 +7,11 @@ invariant_of-result c =
     let r = c.requires in
     let t = c.in_ok-tables.ensures in
     (fresh-seen c.args.first c.args.count c.args.room r.some_number r.few_numbers r.range r.some_chunk r.few_chunks
-        c.in_ok-tables.tables t.first t.slots t.places t.one t.capacity _ refl refl refl).1
+    c.in_ok-tables.tables t.first t.slots t.places t.one t.capacity _ refl refl refl).1
 
 pub returns : goal.returns
 returns c =
     let r = c.requires in
     let t = c.in_ok-tables.ensures in
     (fresh-seen c.args.first c.args.count c.args.room r.some_number r.few_numbers r.range r.some_chunk r.few_chunks
-        c.in_ok-tables.tables t.first t.slots t.places t.one t.capacity _ refl refl refl).0
+    c.in_ok-tables.tables t.first t.slots t.places t.one t.capacity _ refl refl refl).0

@@ -1,5 +1,5 @@
 -- What a region is seen as that was made anew, or of two.
-use Rattle.std.proofs.Common.{◌≡◌, ◌≢◌, ℕ, zero, suc, ◌+◌, ◌-◌, ◌<◌, ◌≤◌, inl, inr, List, [], ◌∷◌, ◌++◌, length, get_or, map, replicate, count_by, is_none, Option, None, vec_capacity, refl, sym, ap, ◌∙◌, subst, arith, length-append}
+use Rattle.std.proofs.Common.{◌≡◌, ℕ, zero, suc, ◌+◌, ◌-◌, ◌<◌, ◌≤◌, List, ◌∷◌, ◌++◌, length, get_or, map, replicate, count_by, is_none, None, vec_capacity, refl, sym, ap, ◌∙◌, subst, arith, length-append}
 use Rattle.std.specs.List.{range_with_len}
 use Rattle.std.proofs.lemmas.List.{length-map, map-append, get_or_append_left, get_or-append_right}
 use Rattle.std.proofs.lemmas.List.FromFn.{get_or-map-range_with_len}
@@ -11,9 +11,9 @@ use Rattle.node_region.specs.declared.chunk.Place.{Place}
 use Rattle.node_region.specs.declared.chunk.FreeList.{FreeList}
 use Rattle.node_region.specs.declared.tables.Tables.{Tables}
 use Rattle.node_region.specs.declared.region.Region.TheInside.{Inside}
-use Rattle.node_region.specs.Pool.{CellPool, IsPool, IsCovered, IsNextTo, count, entry, appended, fresh_pool}
-use Rattle.node_region.specs.Tables.{slots_of, places_of, cells_in, links_in, cell_of, link_of, next_of, thread, told_after, free_in, IsTail, fresh_slot, fresh_slots, fresh_place}
-use Rattle.node_region.specs.Kept.{KeepsTables, IsFree, CanLink, IsLinked}
+use Rattle.node_region.specs.Pool.{IsPool, IsNextTo, appended, fresh_pool}
+use Rattle.node_region.specs.Tables.{slots_of, places_of, cells_in, links_in, cell_of, link_of, next_of, free_in, IsTail, fresh_slot, fresh_slots, fresh_place}
+use Rattle.node_region.specs.Kept.{CanLink, IsLinked}
 use Rattle.node_region.specs.RegionFields.{pool_of, IsRegion}
 use Rattle.node_region.proofs.Threads.{thread-length, thread-moved, told-moved, thread-longer, thread-rising, told-rising}
 use Rattle.node_region.proofs.Pools.{pool-same}

@@ -1,17 +1,16 @@
 -- One list of free numbers put behind another.
-use Rattle.std.proofs.Common.{◌≡◌, ◌≢◌, ℕ, zero, suc, ◌+◌, ◌-◌, ◌<◌, ◌≤◌, inl, inr, List, [], ◌∷◌, ◌++◌, length, set, map, Option, Some, None, refl, sym, ap, ◌∙◌, subst, add-one, arith}
-use Rattle.std.proofs.lemmas.List.{length-map, append-nil}
+use Rattle.std.proofs.Common.{◌≡◌, ◌≢◌, ℕ, suc, ◌+◌, ◌-◌, ◌≤◌, inl, inr, List, [], ◌∷◌, ◌++◌, set, map, None, refl, sym, ap, ◌∙◌, subst, arith}
+use Rattle.std.proofs.lemmas.List.{length-map}
 use Rattle.hg_base.specs.Edges.{IsIn}
 use Rattle.hg_base.proofs.Components.{IsIn-append}
-use Rattle.node_region.specs.declared.chunk.State.{State}
-use Rattle.node_region.specs.declared.chunk.State.TheVariants.{Used, Free}
+use Rattle.node_region.specs.declared.chunk.State.TheVariants.{Free}
 use Rattle.node_region.specs.declared.chunk.Slot.{Slot}
 use Rattle.node_region.specs.declared.chunk.FreeList.{FreeList}
 use Rattle.node_region.specs.declared.tables.Tables.{Tables}
-use Rattle.node_region.specs.Pool.{AreDifferent, entry}
+use Rattle.node_region.specs.Pool.{AreDifferent}
 use Rattle.node_region.specs.Tables.{slots_of, places_of, cells_in, links_in, cell_of, link_of, next_of, thread, told_after, free_in, IsTail}
 use Rattle.node_region.specs.Kept.{KeepsTables, IsFree, CanLink, IsLinked}
-use Rattle.node_region.proofs.Threads.{TellSame, thread-last, thread-longer, told-in, told-same, thread-same, thread-kept, thread-split, told-split, different-front, different-apart}
+use Rattle.node_region.proofs.Threads.{thread-last, thread-longer, told-in, told-same, thread-same, thread-kept, thread-split, told-split, different-front, different-apart}
 use Rattle.node_region.proofs.Entries.{next-set_same, entry-read}
 use Rattle.node_region.proofs.Slots.{IsEntry, field-written, field-kept, others-tell_same}
 

@@ -1,8 +1,7 @@
 -- Each change of a pool keeps what every pool keeps to.
-use Rattle.std.proofs.Common.{◌≡◌, ◌≢◌, ℕ, zero, suc, ◌+◌, ◌-◌, ◌<◌, ◌≤◌, ◌⊎◌, inl, inr, Bool, true, false, cond, List, [], ◌∷◌, ◌++◌, length, get_or, set, drop, count_by, is_none, replicate, Option, Some, None, IsSome, refl, sym, ap, ◌∙◌, subst, arith, length-append}
-use Rattle.std.specs.List.{range_with_len, sum_by}
+use Rattle.std.proofs.Common.{◌≡◌, ◌≢◌, ℕ, suc, ◌+◌, ◌-◌, ◌<◌, ◌≤◌, inl, inr, Bool, true, false, cond, List, ◌∷◌, length, get_or, set, drop, count_by, is_none, replicate, Option, Some, None, IsSome, refl, sym, ap, ◌∙◌, subst, arith, length-append}
 use Rattle.std.proofs.lemmas.Bool.{cases_eq, cases_lt}
-use Rattle.std.proofs.lemmas.List.{length-set, length-replicate, get_or-replicate, get_or_append_left, get_or-append_right}
+use Rattle.std.proofs.lemmas.List.{length-set, length-replicate, get_or-replicate}
 use Rattle.std.proofs.lemmas.List.Sums.{sum_by-set, sum_by-append}
 use Rattle.std.proofs.lemmas.List.Folds.{sum_by-replicate}
 use Rattle.std.proofs.lemmas.List.FromFn.{length-range_with_len}
@@ -11,7 +10,7 @@ use Rattle.hg_base.specs.declared.graph.Room.{Room}
 use Rattle.hg_base.proofs.Components.{IsIn-append, IsIn-append_back}
 use Rattle.node_region.specs.declared.cell.Cell.{Cell}
 use Rattle.node_region.specs.declared.cell.Hint.{Hint}
-use Rattle.node_region.specs.Pool.{CellPool, IsPool, IsCovered, IsUsed, IsNextTo, AreDifferent, count, cell_at, entry, fresh_pool, with_cell, with_taken, with_given_back, with_leaf, with_hint, with_finger, appended, next_turn, turn_of}
+use Rattle.node_region.specs.Pool.{CellPool, IsPool, IsCovered, IsUsed, IsNextTo, AreDifferent, cell_at, entry, fresh_pool, with_cell, with_taken, with_given_back, with_leaf, with_hint, with_finger, appended, next_turn, turn_of}
 use Rattle.node_region.proofs.Threads.{rising-from, rising-in, rising-different, different-append}
 use Rattle.node_region.proofs.Entries.{entry-is, entry-set_same, entry-set_other, entry-covered, nothing-is_not, entry-append_left, entry-append_right}
 

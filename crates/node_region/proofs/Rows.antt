@@ -1,7 +1,7 @@
 -- Tables in a row: where the entries of each stand among all entries, and what a write to one changes.
 use Rattle.std.proofs.Common.{◌≡◌, ℕ, zero, suc, ◌+◌, ◌-◌, ◌<◌, ◌≤◌, List, [], ◌∷◌, ◌++◌, length, get_or, set, take, refl, sym, ap, ◌∙◌, arith, zero-add, add-zero, length-append}
 use Rattle.std.specs.List.{flat_map}
-use Rattle.std.proofs.lemmas.List.{take_more, append-nil, set-append_left, set-append_right, set-get_or, take_all}
+use Rattle.std.proofs.lemmas.List.{take_more, append-nil, set-append_left, set-append_right, take_all}
 use Rattle.std.proofs.lemmas.List.Concat.{flat_map-append, get_or-flat_map}
 use Rattle.node_region.specs.declared.chunk.Chunk.{Chunk}
 use Rattle.node_region.specs.declared.chunk.At.{At}

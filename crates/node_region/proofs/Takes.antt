@@ -1,18 +1,17 @@
 -- What a region is seen as after a number was taken or given back.
-use Rattle.std.proofs.Common.{◌≡◌, ◌≢◌, ℕ, zero, suc, ◌+◌, ◌-◌, ◌<◌, ◌≤◌, inl, inr, List, [], ◌∷◌, length, get_or, set, map, drop, min, ◌^◌, is_none, Option, Some, None, refl, sym, ap, ◌∙◌, subst, add-one, arith}
+use Rattle.std.proofs.Common.{◌≡◌, ◌≢◌, ℕ, zero, suc, ◌+◌, ◌-◌, ◌≤◌, inl, inr, List, ◌∷◌, set, map, drop, is_none, Some, None, refl, sym, ap, ◌∙◌, subst, add-one, arith}
 use Rattle.std.proofs.lemmas.List.{length-map, get_or-map}
 use Rattle.hg_base.specs.Edges.{IsIn}
 use Rattle.node_region.specs.declared.cell.Cell.{Cell}
-use Rattle.node_region.specs.declared.chunk.State.{State}
 use Rattle.node_region.specs.declared.chunk.State.TheVariants.{Used, Free}
 use Rattle.node_region.specs.declared.chunk.Slot.{Slot}
 use Rattle.node_region.specs.declared.chunk.FreeList.{FreeList}
 use Rattle.node_region.specs.declared.tables.Tables.{Tables}
 use Rattle.node_region.specs.declared.region.Region.TheInside.{Inside}
-use Rattle.node_region.specs.Pool.{CellPool, IsPool, IsCovered, IsUsed, AreDifferent, cell_at, turn_of, with_taken, with_given_back, next_turn}
+use Rattle.node_region.specs.Pool.{CellPool, IsCovered, IsUsed, AreDifferent, with_taken, with_given_back, next_turn}
 use Rattle.node_region.specs.Tables.{slots_of, cells_in, links_in, cell_of, link_of, next_of, thread, told_after, free_in, IsTail}
 use Rattle.node_region.specs.RegionFields.{pool_of, IsRegion}
-use Rattle.node_region.proofs.Threads.{thread-kept, told-same, thread-longer, thread-first, thread-length, TellSame}
+use Rattle.node_region.proofs.Threads.{told-same, thread-longer, thread-first, thread-length}
 use Rattle.std.proofs.lemmas.List.Sums.{count_by-le-length}
 use Rattle.node_region.proofs.Entries.{next-set_same}
 use Rattle.node_region.proofs.Slots.{IsEntry, field-written, field-kept, others-tell_same, free-kept}

@@ -1,26 +1,23 @@
 -- What a region is seen as after the entry of a number or of a place was written.
-use Rattle.std.proofs.Common.{◌≡◌, ◌≢◌, ℕ, zero, suc, ◌+◌, ◌-◌, ◌<◌, ◌≤◌, ◌⊎◌, inl, inr, List, [], ◌∷◌, ◌++◌, length, get_or, set, map, drop, Option, Some, None, IsSome, nat_le, nat_eq, ◌==◌, if◌then◌else◌, Bool, true, false, refl, sym, ap, ◌∙◌, subst, add-one, arith}
-use Rattle.std.proofs.lemmas.List.{length-map, get_or-map, length-set}
-use Rattle.std.proofs.lemmas.Bool.{cases_eq}
+use Rattle.std.proofs.Common.{◌≡◌, ◌≢◌, ℕ, ◌+◌, ◌-◌, ◌<◌, ◌≤◌, List, get_or, set, map, Option, Some, None, nat_le, ◌==◌, if◌then◌else◌, Bool, true, false, refl, sym, ap, ◌∙◌, subst, arith}
+use Rattle.std.proofs.lemmas.List.{length-map, get_or-map}
 use Rattle.hg_base.specs.Edges.{IsIn}
 use Rattle.node_region.specs.declared.cell.Cell.{Cell}
 use Rattle.node_region.specs.declared.cell.Hint.{Hint}
-use Rattle.node_region.specs.declared.chunk.State.{State}
-use Rattle.node_region.specs.declared.chunk.State.TheVariants.{Used, Free}
+use Rattle.node_region.specs.declared.chunk.State.TheVariants.{Used}
 use Rattle.node_region.specs.declared.chunk.Slot.{Slot}
 use Rattle.node_region.specs.declared.chunk.Place.{Place}
 use Rattle.node_region.specs.declared.chunk.FreeList.{FreeList}
 use Rattle.node_region.specs.declared.tables.Tables.{Tables}
 use Rattle.node_region.specs.declared.region.Region.TheInside.{Inside}
-use Rattle.node_region.specs.Pool.{CellPool, IsPool, IsCovered, IsUsed, AreDifferent, cell_at, turn_of, hint_of, leaf_of, finger_of, hinted_cell, with_cell, with_taken, with_given_back, with_leaf, with_hint, with_finger, next_turn}
-use Rattle.node_region.specs.Tables.{slots_of, places_of, cells_in, links_in, cell_of, link_of, next_of, thread, told_after, free_in, IsTail}
+use Rattle.node_region.specs.Pool.{CellPool, IsPool, IsCovered, IsUsed, cell_at, turn_of, hint_of, leaf_of, finger_of, hinted_cell, with_cell, with_leaf, with_hint, with_finger}
+use Rattle.node_region.specs.Tables.{slots_of, places_of, cells_in, cell_of, link_of, thread, told_after, free_in, IsTail}
 use Rattle.node_region.specs.Kept.{KeepsTables}
 use Rattle.node_region.specs.RegionFields.{pool_of, IsRegion}
-use Rattle.node_region.proofs.Threads.{thread-kept, told-same, thread-longer}
-use Rattle.node_region.proofs.Entries.{entry-read, next-set_same}
-use Rattle.node_region.proofs.Slots.{IsEntry, field-written, field-kept, others-tell_same, free-kept, tail-kept}
+use Rattle.node_region.proofs.Entries.{entry-read}
+use Rattle.node_region.proofs.Slots.{IsEntry, field-written, field-kept, free-kept, tail-kept}
 use Rattle.node_region.proofs.Pools.{pool-same}
-use Rattle.node_region.proofs.PoolLaws.{used-covered, used-not_free, with_cell-pool, with_taken-pool, with_given_back-pool, with_leaf-pool, with_hint-pool, with_finger-pool}
+use Rattle.node_region.proofs.PoolLaws.{used-not_free, with_cell-pool, with_leaf-pool, with_hint-pool, with_finger-pool}
 
 -- a number of the range, as the tables count them
 pub covered-within : (r : Inside) (id : ℕ) → IsCovered (pool_of r) id → (r.tables.first ≤ id) × (id < r.tables.first + r.tables.count)

@@ -1,5 +1,4 @@
-use Rattle.std.proofs.Common.{◌≡◌, Bool, true, false, None, Some, ◌∙◌, sym, ap, arith}
-use Rattle.std.proofs.lemmas.Grind.{common_steps}
+use Rattle.std.proofs.Common.{◌≡◌, true, false, ◌∙◌, sym, ap, arith}
 use Rattle.std.proofs.lemmas.List.{length-map}
 use Rattle.node_region.specs.Tables.{cell_of, slots_of, cells_in}
 use Rattle.node_region.proofs.Views.{cell-read, turn-read, hinted-none, hinted-other, hinted-same}

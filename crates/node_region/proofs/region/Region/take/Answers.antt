@@ -1,4 +1,4 @@
-use Rattle.std.proofs.Common.{◌≡◌, refl, sym, ap, ◌∙◌, arith}
+use Rattle.std.proofs.Common.{refl, arith}
 use Rattle.node_region.proofs.Views.{covered-within}
 use Rattle.node_region.proofs.Takes.{head-covered, head-has_no_cell, taken-seen, taken-split}
 use Rattle.node_region.proofs.region.Region.take.Goals as goal

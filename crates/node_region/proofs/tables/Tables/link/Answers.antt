@@ -1,4 +1,4 @@
-use Rattle.std.proofs.Common.{refl, arith}
+use Rattle.std.proofs.Common.{refl}
 use Rattle.node_region.proofs.Linking.{tail-free, linked-written}
 use Rattle.node_region.proofs.tables.Tables.link.Goals as goal
 

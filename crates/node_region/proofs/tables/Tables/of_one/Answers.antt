@@ -1,7 +1,4 @@
-use Rattle.std.proofs.Common.{◌≡◌, ◌+◌, ◌++◌, ◌∷◌, [], refl, ap, sym, ◌∙◌, arith, rules, map, length, replicate}
-use Rattle.std.proofs.lemmas.List.{append-nil, length-replicate}
-use Rattle.std.proofs.lemmas.Grind.{common_steps}
-use Rattle.node_region.specs.Tables.{AreInRow, slots_of}
+use Rattle.std.proofs.Common.{refl, arith}
 use Rattle.node_region.proofs.Rows.{one-row, one-count, one-list}
 use Rattle.node_region.proofs.tables.Tables.of_one.Goals as goal
 

@@ -1,4 +1,4 @@
-use Rattle.std.proofs.Common.{◌≡◌, refl, sym, ap, ◌∙◌, length, arith}
+use Rattle.std.proofs.Common.{refl, sym, ap, ◌∙◌, length}
 use Rattle.node_region.specs.Tables.{slots_of, number_at}
 use Rattle.std.proofs.lemmas.List.{length-set}
 use Rattle.node_region.specs.declared.chunk.Chunk.{Chunk}

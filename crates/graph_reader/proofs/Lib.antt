@@ -5,3 +5,6 @@ pub mod Takes
 pub mod Decoding
 pub mod Pictures
 pub mod Spelling
+pub mod Cuts
+pub mod FirstFault
+pub mod LeftToRight

@@ -13,7 +13,7 @@ use Rattle.graph_reader.specs.declared.parser.Stage.{Stage}
 use Rattle.graph_reader.specs.declared.parser.Stage.TheVariants as stages
 use Rattle.graph_reader.specs.Tokens.{PlacedToken, blanked, tokens_from}
 use Rattle.graph_reader.specs.EdgeList.{edge_list, ended, settles}
-use Rattle.graph_reader.specs.Lexing.{meaning_with, lexed}
+use Rattle.graph_reader.specs.Lexing.{meaning_with, lexed, GoesOn}
 use Rattle.graph_reader.specs.Parsing.{Parsing, Takes, reading_at, settling, is_out_of_memory, is_counting, KeepsMemory}
 use Rattle.graph_reader.specs.Progress.{Progress, HasRead, Answers, reading_on, settles_with}
 
@@ -22,6 +22,9 @@ progress n l p = record { taken = n; lexer = l; parsing = p }
 
 shift : (place n : ℕ) → place + suc n ≡ (place + 1) + n
 shift place n = omega arith
+
+past : (place n k : ℕ) → place + (n + k) ≡ (place + n) + k
+past place n k = omega arith
 
 within : (n k : ℕ) → nat_lt n ((n + 1) + k) ≡ true
 within n k = grind arith
@@ -54,6 +57,21 @@ read-quiet p l k n b bytes tokens read = record {
   reading = λ memory rest. rw (append_assoc, ← read.reading memory (b ∷ rest), tokens rest, shift n (length rest)) refl;
   settling = λ rest. rw (append_assoc, ← read.settling (b ∷ rest), tokens rest, shift n (length rest)) refl;
 }
+
+-- bytes that end no token
+pub read-quietly : (p : Parsing) (l k : Lexer) (n : ℕ) (more bytes : List ℕ) → GoesOn l k more
+    → HasRead (progress n l p) bytes → HasRead (progress (n + length more) k p) (bytes ++ more)
+unfolding reading_on settles_with
+read-quietly p l k n more bytes tokens read = record {
+  taken = rw (length-append, read.taken) refl;
+  reading = λ memory rest. rw (append_assoc, ← read.reading memory (more ++ rest), tokens n rest, length-append, past n (length more) (length rest)) refl;
+  settling = λ rest. rw (append_assoc, ← read.settling (more ++ rest), tokens n rest, length-append, past n (length more) (length rest)) refl;
+}
+
+-- one piece and then another are one
+pub read-both : (p : Parsing) (k : Lexer) (n a b : ℕ) (bytes first second all : List ℕ) → all ≡ first ++ second
+    → HasRead (progress ((n + a) + b) k p) ((bytes ++ first) ++ second) → HasRead (progress (n + (a + b)) k p) (bytes ++ all)
+read-both p k n a b bytes first second all e read = rw (e, past n a b, ← append_assoc bytes first second) read
 
 ended-first : (n end at : ℕ) (token : Token) (ts : List PlacedToken) → nat_lt n end ≡ true
     → ended end (record { from = at; to = n; token = token } ∷ ts) ≡ record { from = at; to = n; token = token } ∷ ended end ts

@@ -13,7 +13,7 @@ use Rattle.graph_reader.specs.declared.parser.Stage.{Stage}
 use Rattle.graph_reader.specs.declared.parser.Stage.TheVariants as stages
 use Rattle.graph_reader.specs.Tokens.{PlacedToken, blanked, tokens_from}
 use Rattle.graph_reader.specs.EdgeList.{edge_list, ended, settles}
-use Rattle.graph_reader.specs.Lexing.{meaning_with, lexed, GoesOn}
+use Rattle.graph_reader.specs.Lexing.{meaning_with, lexed}
 use Rattle.graph_reader.specs.Parsing.{Parsing, Takes, reading_at, settling, is_out_of_memory, is_counting, KeepsMemory}
 use Rattle.graph_reader.specs.Progress.{Progress, HasRead, Answers, reading_on, settles_with}
 
@@ -48,24 +48,14 @@ pub read-nothing : (m : Parsing) → m.stage ≡ stages.FirstWord → HasRead (p
 unfolding reading_at settling lexed edge_list settles reading_on settles_with
 read-nothing m e = rw e (record { taken = refl; reading = λ memory rest. rw zero-add refl; settling = λ rest. rw zero-add refl })
 
--- a byte that ends no token
-pub read-quiet : (p : Parsing) (l k : Lexer) (n b : ℕ) (bytes : List ℕ) → ((rest : List ℕ) → lexed l n (b ∷ rest) ≡ lexed k (n + 1) rest)
-    → HasRead (progress n l p) bytes → HasRead (progress (n + 1) k p) (bytes ++ b ∷ [])
-unfolding reading_on settles_with
-read-quiet p l k n b bytes tokens read = record {
-  taken = rw (length-append, read.taken) refl;
-  reading = λ memory rest. rw (append_assoc, ← read.reading memory (b ∷ rest), tokens rest, shift n (length rest)) refl;
-  settling = λ rest. rw (append_assoc, ← read.settling (b ∷ rest), tokens rest, shift n (length rest)) refl;
-}
-
 -- bytes that end no token
-pub read-quietly : (p : Parsing) (l k : Lexer) (n : ℕ) (more bytes : List ℕ) → GoesOn l k more
+pub read-quiet : (p : Parsing) (l k : Lexer) (n : ℕ) (more bytes : List ℕ) → ((rest : List ℕ) → lexed l n (more ++ rest) ≡ lexed k (n + length more) rest)
     → HasRead (progress n l p) bytes → HasRead (progress (n + length more) k p) (bytes ++ more)
 unfolding reading_on settles_with
-read-quietly p l k n more bytes tokens read = record {
+read-quiet p l k n more bytes tokens read = record {
   taken = rw (length-append, read.taken) refl;
-  reading = λ memory rest. rw (append_assoc, ← read.reading memory (more ++ rest), tokens n rest, length-append, past n (length more) (length rest)) refl;
-  settling = λ rest. rw (append_assoc, ← read.settling (more ++ rest), tokens n rest, length-append, past n (length more) (length rest)) refl;
+  reading = λ memory rest. rw (append_assoc, ← read.reading memory (more ++ rest), tokens rest, length-append, past n (length more) (length rest)) refl;
+  settling = λ rest. rw (append_assoc, ← read.settling (more ++ rest), tokens rest, length-append, past n (length more) (length rest)) refl;
 }
 
 -- one piece and then another are one

@@ -117,8 +117,9 @@ fn read_byte(lexer: Lexer, place: u64, parser: &mut Parser, b: u8) -> Lexer
     }
 }
 
-// Reads the digits that a piece begins with, where a number goes on, and the byte behind them. Answers how many it read.
-fn read_token(lexer: Lexer, place: u64, parser: &mut Parser, piece: &[u8]) -> (Lexer, usize)
+// Reads some bytes of a piece that begins at this place: the digits that go on with a number, and the
+// byte behind them. Answers how many they are.
+fn read_some(lexer: Lexer, place: u64, parser: &mut Parser, piece: &[u8]) -> (Lexer, usize)
     requires lexing { IsLexing lexer }
     requires some { 0 < length piece.now }
     requires short { place + length piece.now ≤ 134217728 }
@@ -148,7 +149,7 @@ fn read_piece(lexer: Lexer, place: u64, parser: &mut Parser, piece: &[u8]) -> Le
     let mut now = lexer;
     let mut read = 0;
     while read < piece.len() {
-        let (next, count) = read_token(now, place + read as u64, parser, &piece[read..]);
+        let (next, count) = read_some(now, place + read as u64, parser, &piece[read..]);
         now = next;
         read += count;
     }

@@ -1,9 +1,11 @@
 //! The program's words, what they ask for, and a whole run: from words and a source to a report and a status.
 #![tactic(auto)]
 
+mod command;
 mod ending;
 mod input;
 mod line;
+mod options;
 mod reading;
 mod request;
 mod running;

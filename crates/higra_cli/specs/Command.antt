@@ -1,5 +1,5 @@
 -- The program's command line: what is declared to `clap`, the texts that it finds, and the request that they give.
-use Rattle.std.specs.Prelude.{ℕ, true, List, [], ◌∷◌, map, Option, Some, None, codes}
+use Rattle.std.specs.Prelude.{ℕ, true, List, [], ◌∷◌, Option, Some, None, codes}
 use Rattle.clap.specs.Kinds.{Kinds}
 use Rattle.clap.specs.Words.{App, Row, fault_of, first_of, matches_of, new_app, new_rule, with_rule}
 use Rattle.higra_cli.specs.Request.{CommandLine, ◌>>=◌, request_by}
@@ -45,14 +45,20 @@ texts_in rows = do
     seed = first_of (codes "seed") rows;
   })
 
+-- the texts that the words after the program's name give, where `clap` finds no fault in them
+abbrev pub given_by : List (List ℕ) → Option CommandLine
+given_by words = do
+  rows ← rows_on (codes "higra" ∷ words)
+  texts_in rows
+
+-- the request that the words after the program's name give, if they give one
+abbrev pub requested : List (List ℕ) → Option Request
+requested words = do
+  line ← given_by words
+  request_by line
+
 -- the request of what was found
 abbrev pub request_in : List Row → Option Request
 request_in rows = do
   line ← texts_in rows
   request_by line
-
--- the request that the words after the program's name give, if they give one
-abbrev pub requested : List (List ℕ) → Option Request
-requested words = do
-  rows ← rows_on (codes "higra" ∷ words)
-  request_in rows

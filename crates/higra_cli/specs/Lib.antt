@@ -6,3 +6,4 @@ pub mod Ordered
 pub mod Reading
 pub mod Request
 pub mod Running
+pub mod Worked

@@ -22,3 +22,5 @@ pub use writing::{RunFault, report};
 
 #[cfg(test)]
 mod tests;
+#[cfg(test)]
+mod worked;

@@ -4,3 +4,4 @@ pub mod NumberLemmas
 pub mod OrderedLemmas
 pub mod ReadingLemmas
 pub mod RunningLemmas
+pub mod SpelledLemmas

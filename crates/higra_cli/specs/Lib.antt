@@ -6,4 +6,5 @@ pub mod Ordered
 pub mod Reading
 pub mod Request
 pub mod Running
+pub mod Spelled
 pub mod Worked

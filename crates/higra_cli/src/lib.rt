@@ -4,6 +4,7 @@
 mod command;
 mod ending;
 mod input;
+pub mod laws;
 mod line;
 mod options;
 mod reading;

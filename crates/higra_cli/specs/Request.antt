@@ -59,7 +59,7 @@ tile_by = value_or 64 (number_in 1 1048576)
 abbrev pub workers_by : Option (List ℕ) → Option ℕ
 workers_by = value_or 4 (number_in 1 64)
 
--- the form with this name
+-- the form with this name; `pgm` is one where a report takes it, and none does so far
 abbrev pub form_named : List ℕ → Option Form
 form_named text = if bytes_eq text (codes "text") then Some Text else None
 
@@ -75,7 +75,7 @@ alone line report = if is_some line.kind || is_some line.level then None else So
 abbrev pub report_by : CommandLine → Option Report
 report_by line = if bytes_eq line.report (codes "tree") then alone line Tree else None
 
--- `--make` and `--seed`: no picture is made, so neither is taken
+-- `--make` and `--seed`: so far no picture is made, and neither is taken
 abbrev pub made_by : CommandLine → Option (Option Made)
 made_by line = if is_some line.make || is_some line.seed then None else Some None
 

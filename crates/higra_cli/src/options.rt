@@ -43,7 +43,7 @@ pub(crate) fn form_by(text: Option<&str>) -> Option<Form>
     }
 }
 
-// The form with this name.
+// The form with this name. `pgm` is one where a report takes it, and none does so far.
 fn form_named(text: &str) -> Option<Form>
     ensures { result ≡ form_named text.now }
 {

@@ -129,7 +129,7 @@ fn alone(given: &Given, report: Report) -> Option<Report>
     }
 }
 
-// `--make` and `--seed`: no picture is made, so neither is taken.
+// `--make` and `--seed`: so far no picture is made, and neither is taken.
 fn made_by(given: &Given) -> Option<Option<Made>>
     ensures { result ≡ made_by (texts_of given.now) }
 {

@@ -25,3 +25,5 @@ pub mod Ranks
 pub mod Ranked
 pub mod LawForms
 pub mod Lines
+pub mod Climbs
+pub mod Tops

@@ -13,3 +13,5 @@ pub mod Outside
 pub mod Placed
 pub mod Labels
 pub mod LabelsFields
+pub mod Levels
+pub mod Zones

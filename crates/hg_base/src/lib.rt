@@ -6,6 +6,7 @@ mod gate;
 mod graph;
 mod labels;
 pub mod laws;
+pub mod level_laws;
 mod memory;
 mod outside;
 mod standard;

@@ -1,0 +1,10 @@
+//! Laws of trees cut at a level. Each is the contract of a function that does nothing.
+ghost use Rattle.std.specs.Prelude.{◌≡◌, ◌↔◌, ℕ, ◌<◌, length, IsTrue};
+ghost use Rattle.hg_base.specs.Tree.{ParentTree, IsAbove};
+ghost use Rattle.hg_base.specs.Levels.{IsClimbing, Shares, shares, is_above};
+
+/// The tests say exactly which node is above another, and which two share a node of the level.
+pub fn shared_by_nodes()
+    ensures above { (t : ParentTree) (i x : ℕ) → IsClimbing t → x < length t.parents → (IsTrue (is_above t i x) ↔ IsAbove t i x) }
+    ensures shared { (t : ParentTree) (level x y : ℕ) → IsClimbing t → x < length t.parents → y < length t.parents → (IsTrue (shares t level x y) ↔ Shares t level x y) }
+{}

@@ -27,3 +27,4 @@ pub mod LawForms
 pub mod Lines
 pub mod Climbs
 pub mod Tops
+pub mod Levels

@@ -28,3 +28,8 @@ pub mod Lines
 pub mod Climbs
 pub mod Tops
 pub mod Levels
+pub mod Passing
+pub mod Kept
+pub mod Weights
+pub mod Zones
+pub mod ZoneLevels

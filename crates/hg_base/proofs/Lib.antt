@@ -33,3 +33,5 @@ pub mod Kept
 pub mod Weights
 pub mod Zones
 pub mod ZoneLevels
+pub mod Leasts
+pub mod KeyLabels

@@ -15,3 +15,4 @@ pub mod Labels
 pub mod LabelsFields
 pub mod Levels
 pub mod Zones
+pub mod Numbering

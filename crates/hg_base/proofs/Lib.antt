@@ -35,3 +35,5 @@ pub mod Zones
 pub mod ZoneLevels
 pub mod Leasts
 pub mod KeyLabels
+pub mod Saliencies
+pub mod KeyClasses

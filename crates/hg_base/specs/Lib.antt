@@ -16,3 +16,4 @@ pub mod LabelsFields
 pub mod Levels
 pub mod Zones
 pub mod Numbering
+pub mod Saliencies

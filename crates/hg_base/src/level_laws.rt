@@ -2,7 +2,9 @@
 ghost use Rattle.std.specs.Prelude.{◌≡◌, ◌↔◌, ℕ, ◌<◌, ◌≤◌, length, IsTrue};
 ghost use Rattle.hg_base.specs.Tree.{ParentTree, parent, altitude, IsAbove, tree_of};
 ghost use Rattle.hg_base.specs.Edges.{EdgeList, AreApart, AreWithin, joined};
-ghost use Rattle.hg_base.specs.Saliency.{at_most, AreByWeight};
+ghost use Rattle.hg_base.specs.Graph.{WeightedGraph};
+ghost use Rattle.hg_base.specs.Saliency.{at_most, AreByWeight, IsSaliency};
+ghost use Rattle.hg_base.specs.Saliencies.{saliency};
 ghost use Rattle.hg_base.specs.Zones.{keeps, next_kept, zones_of, AreZones};
 ghost use Rattle.hg_base.specs.Levels.{IsClimbing, AltitudesRise, Shares, shares, is_above, IsLevelTree};
 
@@ -34,4 +36,9 @@ pub fn shared_where_joined()
 pub fn zones_are_components()
     ensures { (t : ParentTree) (s : EdgeList) → IsClimbing t → AltitudesRise t → t.leaves ≤ length t.parents →
         ((x : ℕ) → x < t.leaves → altitude t x ≡ 0) → IsLevelTree t s → AreZones (zones_of t) t.leaves s }
+{}
+
+/// The saliency of an edge, and no other number, is the least k such that the edges of weight at most k join its ends.
+pub fn saliencies_are_least()
+    ensures { (g : WeightedGraph) (e k : ℕ) → e < length g.edges → (IsSaliency g e k ↔ (k ≡ saliency g e)) }
 {}

@@ -2,10 +2,10 @@
 use Rattle.std.proofs.Common.{◌≡◌, ℕ, zero, suc, ◌+◌, ◌<◌, ◌≤◌, Bool, true, false, cond, ◌⊎◌, inl, inr, refl, sym, ◌∙◌, subst, ap, arith, length, map}
 use Rattle.std.specs.Prelude.{Option, Some, find, unwrap_or, not, ◌==◌}
 use Rattle.std.specs.List.{range_with_len}
-use Rattle.std.proofs.lemmas.Bool.{cases_Bool, cases_lt, cases_order, cases_eq, true≢false, both_ways, lt-ltb, ltb-false, eq-eqb, eqb-true, eqb-false, ne_eqb, or_left, or_right, or_parts, not_from_false, not-false}
+use Rattle.std.proofs.lemmas.Bool.{cases_Bool, cases_lt, cases_order, cases_eq, true≢false, both_ways, lt-ltb, ltb-false, eq-eqb, eqb-true, eqb-false, ne_eqb, or_left, or_right, or_parts, not_from_false, not-false, cond-true, cond-false}
 use Rattle.hg_base.specs.Tree.{ParentTree, parent, altitude, ancestor, IsAbove}
 use Rattle.hg_base.specs.Levels.{IsClimbing}
-use Rattle.hg_base.specs.Zones.{keeps, ancestors, next_kept}
+use Rattle.hg_base.specs.Zones.{keeps, ancestors, next_kept, nearest}
 use Rattle.hg_base.proofs.Climbs.{ancestor-first}
 
 pub keeps-leaf : (t : ParentTree) (i : ℕ) → i < t.leaves → keeps t i ≡ true
@@ -124,10 +124,6 @@ next_kept-is t c i h =
 pub next_kept-above : (t : ParentTree) → IsClimbing t → (i : ℕ) → i < length t.parents → IsAbove t (next_kept t i) i
 next_kept-above t c i h = let n = next_kept-is t c i h in (suc n.steps, n.at)
 
--- the nearest kept node at or above i
-abbrev pub nearest : ParentTree → ℕ → ℕ
-nearest t i = cond (keeps t i) i (next_kept t i)
-
 -- the nearest kept proper ancestor is the nearest kept node at or above the parent
 pub next_kept-parent : (t : ParentTree) → IsClimbing t → (i : ℕ) → i < length t.parents → next_kept t i ≡ nearest t (parent t i)
 next_kept-parent t c i h = elim (cases_Bool (keeps t (parent t i))) [
@@ -145,3 +141,10 @@ next_kept-parent t c i h = elim (cases_Bool (keeps t (parent t i))) [
     further : keeps t (parent t i) ≡ false → (n : IsNextKept t (parent t i) (next_kept t (parent t i))) → (e : ℕ) → e < suc n.steps → keeps t (ancestor t (suc e) i) ≡ false
     further off n zero l = off
     further off n (suc e) l = ap (keeps t) (sym (ancestor-first t (suc e) i)) ∙ n.before e (omega arith)
+
+-- a kept node is its own nearest, and another has its parent's
+pub nearest-kept : (t : ParentTree) (i : ℕ) → keeps t i ≡ true → nearest t i ≡ i
+nearest-kept t i k = cond-true (keeps t i) i (next_kept t i) k
+
+pub nearest-dropped : (t : ParentTree) → IsClimbing t → (i : ℕ) → i < length t.parents → keeps t i ≡ false → nearest t i ≡ nearest t (parent t i)
+nearest-dropped t c i h k = cond-false (keeps t i) i (next_kept t i) k ∙ next_kept-parent t c i h

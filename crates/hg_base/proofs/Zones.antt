@@ -1,15 +1,16 @@
 -- The zones of a tree: where each kept node went, who is above whom, and that they are a forest.
-use Rattle.std.proofs.Common.{◌≡◌, ℕ, zero, suc, ◌+◌, ◌-◌, ◌<◌, ◌≤◌, Bool, true, false, ◌⊎◌, inl, inr, refl, sym, ◌∙◌, subst, ap, arith, List, length, map}
-use Rattle.std.specs.Prelude.{◌↔◌, Option, Some, slice_get, unwrap_or}
-use Rattle.std.proofs.lemmas.Bool.{cases_lt, cases_eq, cases_order, both_ways}
+use Rattle.std.proofs.Common.{◌≡◌, ℕ, zero, suc, ◌+◌, ◌-◌, ◌<◌, ◌≤◌, Bool, true, false, ◌⊎◌, inl, inr, cond, refl, sym, ◌∙◌, subst, ap, arith, List, [], ◌∷◌, ◌++◌, length, length-append, map}
+use Rattle.std.specs.Prelude.{◌↔◌, Option, slice_get, unwrap_or, filter, nat_le}
+use Rattle.std.proofs.lemmas.Bool.{cases_lt, cases_eq, both_ways, le-leb, lt-leb}
 use Rattle.std.proofs.lemmas.List.{length-map}
+use Rattle.std.proofs.lemmas.List.Elements.{filter-append}
 use Rattle.hg_base.specs.Tree.{ParentTree, parent, altitude, ancestor, IsAbove}
 use Rattle.hg_base.specs.Levels.{IsClimbing}
-use Rattle.hg_base.specs.Zones.{keeps, kept, zone_number, next_kept, zones_of}
+use Rattle.hg_base.specs.Zones.{keeps, kept, zone_number, next_kept, maker, zones_of}
 use Rattle.hg_base.proofs.Nodes.{slice_get-mapped}
 use Rattle.hg_base.proofs.Counts.{count_below-all}
 use Rattle.hg_base.proofs.Climbs.{ancestor-add, above-on, above-within, above-rises, ancestor-within}
-use Rattle.hg_base.proofs.Passing.{IsPassing, length-passing, passing-at, passing-index, count_below-grows, count_below-rises, count_below-one}
+use Rattle.hg_base.proofs.Passing.{IsPassing, passing, passing-suc, length-passing, passing-at, passing-index, count_below-grows, count_below-rises, count_below-one}
 use Rattle.hg_base.proofs.Kept.{keeps-leaf, keeps-root, IsNextKept, next_kept-is, next_kept-above}
 
 -- as many zones as kept nodes
@@ -139,3 +140,54 @@ zones-inner t c inner j h other =
 pub zones-low : (t : ParentTree) (x : ℕ) → x < t.leaves → x < length t.parents → altitude (zones_of t) x ≡ altitude t x
 zones-low t x leaf h =
     ap (altitude (zones_of t)) (sym (zone_number-leaf t x (omega arith))) ∙ altitude-zone t x h (keeps-leaf t x leaf)
+
+-- no number below m passes the test "at least l", where m is at most l
+low-out : (p : ℕ → Bool) (l m : ℕ) → m ≤ l → filter (nat_le l) (passing p m) ≡ []
+low-out p l zero h = refl
+low-out p l (suc m) h =
+    ap (filter (nat_le l)) (passing-suc p m)
+    ∙ filter-append (nat_le l) (passing p m) (cond (p m) (m ∷ []) [])
+    ∙ rw (low-out p l m (omega arith)) (alone (p m))
+  where
+    alone : (b : Bool) → filter (nat_le l) (cond b (m ∷ []) []) ≡ []
+    alone true = let off : nat_le l m ≡ false = lt-leb l m (omega arith) in rw off refl
+    alone false = refl
+
+-- one more number that is at least l
+pub high-more : (p : ℕ → Bool) (l m : ℕ) → l ≤ m → filter (nat_le l) (passing p (suc m)) ≡ filter (nat_le l) (passing p m) ++ cond (p m) (m ∷ []) []
+high-more p l m h =
+    ap (filter (nat_le l)) (passing-suc p m)
+    ∙ filter-append (nat_le l) (passing p m) (cond (p m) (m ∷ []) [])
+    ∙ ap (λ (xs : List ℕ). filter (nat_le l) (passing p m) ++ xs) (alone (p m))
+  where
+    alone : (b : Bool) → filter (nat_le l) (cond b (m ∷ []) []) ≡ cond b (m ∷ []) []
+    alone true = let on : nat_le l m ≡ true = le-leb l m h in rw on refl
+    alone false = refl
+
+-- where all below l pass, those at least l are the others
+high-count : (p : ℕ → Bool) (l d : ℕ) → ((i : ℕ) → i < l → p i ≡ true) → l + length (filter (nat_le l) (passing p (l + d))) ≡ length (passing p (l + d))
+high-count p l zero h =
+    let e : l + 0 ≡ l = omega arith in
+    rw e (rw (low-out p l l (omega arith)) (omega (arith, length-passing p l, count_below-all p l h)))
+high-count p l (suc d) h =
+    let e : l + suc d ≡ suc (l + d) = omega arith in
+    let before = high-count p l d h in
+    let high : length (filter (nat_le l) (passing p (suc (l + d)))) ≡ length (filter (nat_le l) (passing p (l + d))) + length (cond (p (l + d)) ((l + d) ∷ []) []) =
+        ap (λ (xs : List ℕ). length xs) (high-more p l (l + d) (omega arith)) ∙ length-append (filter (nat_le l) (passing p (l + d))) (cond (p (l + d)) ((l + d) ∷ []) []) in
+    let all : length (passing p (suc (l + d))) ≡ length (passing p (l + d)) + length (cond (p (l + d)) ((l + d) ∷ []) []) =
+        ap (λ (xs : List ℕ). length xs) (passing-suc p (l + d)) ∙ length-append (passing p (l + d)) (cond (p (l + d)) ((l + d) ∷ []) []) in
+    rw e (omega (arith, before, high, all))
+
+-- no maker for a leaf, and one for each inner zone
+pub zones-makers : (t : ParentTree) → t.leaves ≤ length t.parents → t.leaves + length (zones_of t).makers ≡ length (zones_of t).parents
+zones-makers t few =
+    let e : t.leaves + (length t.parents - t.leaves) ≡ length t.parents = omega arith in
+    let counted = subst (λ (n : ℕ). t.leaves + length (filter (nat_le t.leaves) (passing (keeps t) n)) ≡ length (passing (keeps t) n)) e
+    (high-count (keeps t) t.leaves (length t.parents - t.leaves) (λ i h. keeps-leaf t i h)) in
+    let made : length (zones_of t).makers ≡ length (filter (nat_le t.leaves) (kept t)) = length-map (filter (nat_le t.leaves) (kept t)) (maker t) in
+    let all : length (zones_of t).parents ≡ length (kept t) = length-map (kept t) (λ i. zone_number t (next_kept t i)) in
+    omega (arith, counted, made, all)
+
+-- nothing is made below the leaves
+pub makers-none : (t : ParentTree) → map (maker t) (filter (nat_le t.leaves) (passing (keeps t) t.leaves)) ≡ []
+makers-none t = ap (map (maker t)) (low-out (keeps t) t.leaves t.leaves (omega arith))

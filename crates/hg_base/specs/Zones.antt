@@ -1,5 +1,5 @@
 -- Quasi-flat zones of a tree (Perret and others, Higra, 2019).
-use Rattle.std.specs.Prelude.{◌≡◌, ◌↔◌, ℕ, suc, ◌==◌, ◌-◌, ◌<◌, ◌≤◌, Bool, not, ◌||◌, List, length, map, filter, find, nat_lt, nat_le, unwrap_or, slice_get}
+use Rattle.std.specs.Prelude.{◌≡◌, ◌↔◌, ℕ, suc, ◌==◌, ◌-◌, ◌<◌, ◌≤◌, Bool, not, ◌||◌, List, length, map, filter, find, nat_lt, nat_le, unwrap_or, slice_get, if◌then◌else◌}
 use Rattle.std.specs.List.{range_with_len}
 use Rattle.hg_base.specs.Edges.{EdgeList, Joined, count_below}
 use Rattle.hg_base.specs.Tree.{ParentTree, parent, altitude, ancestor, IsAbove}
@@ -24,6 +24,10 @@ ancestors t i = map (λ d. ancestor t (suc d) i) (range_with_len 0 (length t.par
 -- the nearest kept proper ancestor of node i, which is i itself where it is a root
 abbrev pub next_kept : ParentTree → ℕ → ℕ
 next_kept t i = unwrap_or (find (keeps t) (ancestors t i)) i
+
+-- the nearest kept node at or above node i
+abbrev pub nearest : ParentTree → ℕ → ℕ
+nearest t i = if keeps t i then i else next_kept t i
 
 -- the number of the edge that made inner node i, or 0 where there is no such node
 abbrev pub maker : ParentTree → ℕ → ℕ

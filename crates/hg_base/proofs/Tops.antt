@@ -8,7 +8,7 @@ use Rattle.std.proofs.lemmas.List.FromFn.{length-range_with_len, get_or-range_wi
 use Rattle.hg_base.specs.Edges.{EdgeList, Joined, joined}
 use Rattle.hg_base.specs.Saliency.{at_most}
 use Rattle.hg_base.specs.Tree.{ParentTree, parent, altitude, ancestor, IsAbove}
-use Rattle.hg_base.specs.Levels.{IsClimbing, AltitudesRise, Shares, is_above, shares, IsLevelTree}
+use Rattle.hg_base.specs.Levels.{IsClimbing, AltitudesRise, Shares, is_above, shares, IsTop}
 use Rattle.hg_base.proofs.Climbs.{ancestor-root, ancestor-first, above-on, above-next, above-either, above-within, above-same, above-altitude, ancestor-short}
 
 -- a number of a range that passes makes the range's test true
@@ -40,12 +40,6 @@ shares-to t level x y h =
     let parts = and_parts _ _ found.4 in
     let both = and_parts _ _ parts.1 in
     (found.1, (leb-true (altitude t found.1) level parts.0, (is_above-to t found.1 x both.0, is_above-to t found.1 y both.1)))
-
--- j is the last node of i's path up to the level
-pub record IsTop (t : ParentTree) (level i j : ℕ) : Type 0 where
-  pub above : IsAbove t j i
-  pub low : altitude t j ≤ level
-  pub last : (parent t j ≡ j) ⊎ (level < altitude t (parent t j))
 
 -- a node of the level has a last one
 pub top_found : (t : ParentTree) → IsClimbing t → (level m i : ℕ) → i < length t.parents → length t.parents ≤ i + m → altitude t i ≤ level → (j : ℕ) × IsTop t level i j
@@ -92,3 +86,11 @@ top-shares t c rise level x y i j hx hy tx ty = (
       (top-above t c rise level y j i hy ty (above-on t i s.0 y a s.1.1.1) tx.low),
   λ same. (i, (tx.low, (tx.above, subst (λ (k : ℕ). IsAbove t k y) (sym same) ty.above))),
 )
+
+-- the last node of the parent's path is that of the node's, where the parent is up to the level
+pub top-parent : (t : ParentTree) (level i j : ℕ) → IsTop t level (parent t i) j → IsTop t level i j
+top-parent t level i j top = record { above = above-on t j (parent t i) i top.above (1, refl); low = top.low; last = top.last }
+
+-- else it is the node itself
+pub top-self : (t : ParentTree) (level i : ℕ) → altitude t i ≤ level → (parent t i ≡ i) ⊎ (level < altitude t (parent t i)) → IsTop t level i i
+top-self t level i low last = record { above = (0, refl); low = low; last = last }

@@ -5,7 +5,7 @@ use Rattle.std.proofs.lemmas.Bool.{cases_lt}
 use Rattle.hg_base.specs.Edges.{EdgeList, Joined, joined}
 use Rattle.hg_base.specs.Saliency.{at_most}
 use Rattle.hg_base.specs.Tree.{ParentTree, parent, altitude, ancestor, IsAbove}
-use Rattle.hg_base.specs.Levels.{IsClimbing, AltitudesRise, Shares, shares, IsLevelTree}
+use Rattle.hg_base.specs.Levels.{IsClimbing, AltitudesRise, Shares, shares, IsTop, IsLevelTree}
 use Rattle.hg_base.specs.Zones.{keeps, zone_number, zones_of, HasZone, AreZones}
 use Rattle.hg_base.proofs.Members.{IsIn-filter, IsIn-kept}
 use Rattle.hg_base.proofs.Sets.{same_test}
@@ -13,7 +13,7 @@ use Rattle.hg_base.proofs.Walks.{Joined-joined}
 use Rattle.hg_base.proofs.Drops.{holds}
 use Rattle.hg_base.proofs.Weights.{Joined-heavier}
 use Rattle.hg_base.proofs.Climbs.{ancestor-root, above-on, above-next, above-either, above-within, above-altitude}
-use Rattle.hg_base.proofs.Tops.{IsTop, top_found, top-above, shares-from, shares-to}
+use Rattle.hg_base.proofs.Tops.{top_found, top-above, shares-from, shares-to}
 use Rattle.hg_base.proofs.Kept.{keeps-leaf, keeps-root, keeps-other, keeps-differs}
 use Rattle.hg_base.proofs.Zones.{zone-of, zone_number-within, zone_number-leaf, altitude-zone, zone-above}
 

@@ -1,5 +1,5 @@
 -- A tree cut at a level: which leaves share a node of low altitude, and what that has to do with the edges of low weight.
-use Rattle.std.specs.Prelude.{◌≡◌, ◌↔◌, ℕ, suc, ◌==◌, ◌<◌, ◌≤◌, Bool, ◌&&◌, length, nat_le}
+use Rattle.std.specs.Prelude.{◌≡◌, ◌↔◌, ℕ, suc, ◌==◌, ◌<◌, ◌≤◌, ◌⊎◌, Bool, ◌&&◌, length, nat_le}
 use Rattle.std.specs.List.{range_with_len, list_any}
 use Rattle.hg_base.specs.Edges.{EdgeList, Joined}
 use Rattle.hg_base.specs.Tree.{ParentTree, parent, altitude, ancestor, IsAbove}
@@ -25,6 +25,12 @@ is_above t i x = list_any (λ d. ancestor t d x == i) (range_with_len 0 (length 
 -- the test of `Shares`
 abbrev pub shares : ParentTree → ℕ → ℕ → ℕ → Bool
 shares t level x y = list_any (λ i. nat_le (altitude t i) level && (is_above t i x && is_above t i y)) (range_with_len 0 (length t.parents))
+
+-- j is the last node up to the level on the path from i up
+pub record IsTop (t : ParentTree) (level i j : ℕ) : Type 0 where
+  pub above : IsAbove t j i
+  pub low : altitude t j ≤ level
+  pub last : (parent t j ≡ j) ⊎ (level < altitude t (parent t j))
 
 -- What the nodes of a tree say of the edges of weight at most k, for every k.
 pub record IsLevelTree (t : ParentTree) (s : EdgeList) : Type 0 where

@@ -1,13 +1,10 @@
-// A library with one function.
+//! Saliencies of edges, and the regions of a tree cut at a level.
 #![tactic(auto)]
 
-ghost use Rattle.std.specs.Prelude.{◌≡◌};
-ghost use Rattle.saliency.specs.Echo.{echo_of};
+mod regions;
+mod report;
+mod values;
 
-// The `ensures` clause is the contract: what `echo` returns is `echo_of` of its argument, a definition
-// in `specs/Echo.antt`, which a caller's clause can cite too.
-pub fn echo(x: usize) -> usize
-    ensures { result ≡ echo_of x }
-{
-    x
-}
+pub use regions::cut;
+pub use report::write_saliency;
+pub use values::saliency;

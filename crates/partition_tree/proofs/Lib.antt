@@ -1,1 +1,5 @@
 pub mod NodeLemmas
+pub mod PathLemmas
+pub mod ClimbLemmas
+pub mod ChildLemmas
+pub mod ForestClimbs

@@ -1,2 +1,4 @@
 pub mod Cuts
 pub mod Descents
+pub mod Counting
+pub mod Tables

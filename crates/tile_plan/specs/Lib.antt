@@ -1,3 +1,4 @@
 pub mod Merges
 pub mod Sites
 pub mod Grids
+pub mod Placing

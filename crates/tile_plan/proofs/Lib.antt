@@ -1,4 +1,5 @@
 pub mod Cuts
 pub mod Descents
 pub mod Counting
-pub mod Tables
+pub mod Growing
+pub mod Laying

@@ -1,7 +1,8 @@
 -- Grids of tiles, as the code cuts them, beside their trees of merges.
-use Rattle.std.specs.Prelude.{◌≡◌, ℕ, ◌+◌, ◌*◌, ◌<◌, ◌≤◌, ◌==◌, Bool, ◌&&◌, nat_lt, nat_le, if◌then◌else◌}
-use Rattle.tile_plan.specs.Merges.{MergeTree, Tile, Merge, half, IsCut, tiles, merges}
-use Rattle.tile_plan.specs.Sites.{Part, left_site, right_site, left_of, right_of}
+use Rattle.std.specs.Prelude.{◌≡◌, ℕ, ◌+◌, ◌*◌, ◌<◌, ◌≤◌, ◌==◌, ◌-◌, ◌/◌, ◌%◌, Bool, ◌&&◌, List, map, nat_lt, nat_le, if◌then◌else◌}
+use Rattle.std.specs.List.{range_with_len}
+use Rattle.tile_plan.specs.Merges.{MergeTree, Tile, Merge, half, merge_tree, IsCut, tiles, merges, tile_at}
+use Rattle.tile_plan.specs.Sites.{Part, find, left_site, right_site, left_of, right_of}
 use Rattle.tile_plan.specs.declared.site.Grid.{Grid}
 use Rattle.tile_plan.specs.declared.site.Site.{Site}
 use Rattle.tile_plan.specs.declared.site.Row.{Row}
@@ -61,3 +62,27 @@ lot_number n (Merge by k x y) s a b =
     if nat_lt a (s.first_tile + tiles x) && nat_lt b (s.first_tile + tiles x) then lot_number n x (left_site n x y s) a b else
     (if nat_le (s.first_tile + tiles x) a && nat_le (s.first_tile + tiles x) b then lot_number n y (right_site n x y s) a b
      else n + s.first_merge + merges x + merges y)
+
+-- where the root of a plan of n tiles stands; its mother is a part of its own, beyond the last
+abbrev pub root_of : ℕ → Site
+root_of n = record { first_tile = 0; first_merge = 0; mother = 2 * n - 1; weight = 1; room = n }
+
+-- the tree of merges of a grid
+abbrev pub tree_in : Grid → MergeTree
+tree_in g = merge_tree g.columns g.rows
+
+-- the part of number i
+unfoldable pub part_in : Grid → ℕ → Part
+part_in g i = find (tiles_in g) (tree_in g) (root_of (tiles_in g)) i
+
+-- the table of all parts
+unfoldable pub rows_of : Grid → List Row
+rows_of g = map (λ i. row_of_part (tiles_in g) (part_in g i)) (range_with_len 0 (2 * tiles_in g - 1))
+
+-- the number of the tile at a place of the grid, row after row
+unfoldable pub tile_in : Grid → ℕ → ℕ
+tile_in g i = tile_at (tree_in g) (i % g.columns) (i / g.columns)
+
+-- the part whose lot an edge between tiles a and b is in
+unfoldable pub lot_in : Grid → ℕ → ℕ → ℕ
+lot_in g a b = lot_number (tiles_in g) (tree_in g) (root_of (tiles_in g)) a b

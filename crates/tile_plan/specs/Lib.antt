@@ -1,4 +1,6 @@
 pub mod Merges
 pub mod Sites
 pub mod Grids
+pub mod Frames
 pub mod Placing
+pub mod Plan

@@ -11,3 +11,4 @@ pub mod Text
 pub mod Fault
 pub mod Outside
 pub mod Placed
+pub mod Rising

@@ -134,7 +134,14 @@ block-some : (w s : ℕ) → 1 ≤ w → 1 ≤ s → 1 ≤ div_ceil w s
 block-some w s hw hs = let b = block-below 0 w s hs (omega arith) in omega (arith, b)
 
 block-few : (w s : ℕ) → 1 ≤ s → div_ceil w s ≤ w
-block-few w s hs = ?
+block-few w s hs =
+    elim (cases_lt w (div_ceil w s)) [
+      | inl more ↦ absurd (let times = (div_ceil_times w s (omega arith)).1 in
+          let big = mul-le (w + 1) s (div_ceil w s) s (omega arith) (omega arith) in
+          let self = mul-le w 1 w s (omega arith) hs in
+          omega (arith, times, big, self))
+      | inr few ↦ few
+    ]
 
 pub grid-columns : (f : Frame) → IsFrame f → 1 ≤ (grid_in f).columns
 grid-columns f h = block-some f.width f.side h.width h.side

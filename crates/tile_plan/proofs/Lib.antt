@@ -3,3 +3,4 @@ pub mod Descents
 pub mod Counting
 pub mod Growing
 pub mod Laying
+pub mod Scatter

@@ -4,3 +4,4 @@ pub mod Grids
 pub mod Frames
 pub mod Placing
 pub mod Plan
+pub mod PlanFields

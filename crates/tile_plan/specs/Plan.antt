@@ -5,6 +5,7 @@ use Rattle.std.specs.List.{flat_map}
 use Rattle.hg_base.specs.Graph.{WeightedGraph}
 use Rattle.hg_base.specs.Rank.{ranked}
 use Rattle.hg_base.specs.Edges.{ListedEdge, EdgeList, IsIn, renamed}
+use Rattle.hg_base.specs.Rising.{IsRising}
 use Rattle.tile_plan.specs.Merges.{tiles, tile_at}
 use Rattle.tile_plan.specs.Sites.{Part, post_order, is_lot_of, left_of, right_of}
 use Rattle.tile_plan.specs.Grids.{IsSmall, tiles_in, tree_in, part_in}
@@ -12,6 +13,8 @@ use Rattle.tile_plan.specs.Frames.{vertices_in, grid_in, home_in, IsFrame}
 use Rattle.tile_plan.specs.Placing.{place_by, start_by}
 use Rattle.tile_plan.specs.declared.site.Grid.{Grid}
 use Rattle.tile_plan.specs.declared.frame.Frame.{Frame}
+use Rattle.tile_plan.specs.declared.fault.PlanFault.{PlanFault}
+use Rattle.tile_plan.specs.declared.fault.PlanFault.TheVariants as faults
 use Rattle.tile_plan.specs.declared.site.Side.{Side}
 use Rattle.tile_plan.specs.declared.site.Side.TheVariants as sides
 
@@ -132,11 +135,6 @@ room_tiles p t = (part p t).site.room
 abbrev pub room_places : TilePlan → ℕ → ℕ
 room_places p t = start p (t + room_tiles p t) - start p t
 
--- no edge is at a lesser rank than one before it
-abbrev pub AreRising : EdgeList → Type 0
-AreRising [] = Unit {0}
-AreRising (e ∷ s) = ((f : ListedEdge) → IsIn f s → e.rank < f.rank) × AreRising s
-
 -- both ends of an edge are among n vertices, and differ, and its rank is small
 pub record IsEdgeAmong (n : ℕ) (e : ListedEdge) : Type 0 where
   pub u : e.u < n
@@ -149,5 +147,16 @@ pub record IsPlan (p : TilePlan) : Type 0 where
   pub frame : IsFrame p.frame
   pub tiles : tiles_in (grid_of p) ≤ 65536
   pub few : length p.edges ≤ 4194304
-  pub rising : AreRising p.edges
+  pub rising : IsRising p.edges
   pub edges : (e : ListedEdge) → IsIn e p.edges → IsEdgeAmong (vertices p) e
+
+-- what asking for a plan answers: too many tiles exactly where there are more than 65,536, with their number
+abbrev pub IsAnswer : TilePlan → Result TilePlan PlanFault → Type 0
+IsAnswer p (Ok made) = (made ≡ p) × (tile_count p ≤ 65536)
+IsAnswer p (Err (faults.TooManyTiles count)) = (count ≡ tile_count p) × (65536 < tile_count p)
+IsAnswer p (Err faults.OutOfMemory) = tile_count p ≤ 65536
+
+-- k is the number of tiles of the largest part whose first tile is t
+pub record IsLargestFrom (p : TilePlan) (t k : ℕ) : Type 0 where
+  pub attained : (i : ℕ) × ((i < part_count p) × ((first_tile p i ≡ t) × (tiles_of p i ≡ k)))
+  pub largest : (i : ℕ) → i < part_count p → first_tile p i ≡ t → tiles_of p i ≤ k

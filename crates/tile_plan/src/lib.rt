@@ -4,8 +4,10 @@
 mod fault;
 mod frame;
 mod placing;
+mod plan;
 mod site;
 mod tables;
 
 pub use fault::PlanFault;
+pub use plan::Plan;
 pub use site::Side;

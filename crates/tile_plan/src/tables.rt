@@ -1,10 +1,11 @@
 ghost use Rattle.std.specs.Prelude.{◌≡◌, ℕ, ◌+◌, ◌-◌, ◌*◌, ◌<◌, ◌≤◌, ◌==◌, IfOk, length, map, filter, slice_index, slice_range};
 ghost use Rattle.hg_base.specs.Edges.{ListedEdge, IsIn, renamed};
 ghost use Rattle.hg_base.specs.Placed.{placed};
+ghost use Rattle.hg_base.specs.Rising.{IsRising};
 ghost use Rattle.tile_plan.specs.Grids.{IsSmall, lot_in, root_of, rows_of, tile_in, tiles_in};
 ghost use Rattle.tile_plan.specs.Frames.{grid_in, home_in, IsFrame, vertices_in};
 ghost use Rattle.tile_plan.specs.Placing.{AreKeys, IsTable, start_by};
-ghost use Rattle.tile_plan.specs.Plan.{AreRising, IsEdgeAmong};
+ghost use Rattle.tile_plan.specs.Plan.{IsEdgeAmong};
 
 use crate::frame::Frame;
 use crate::site::{Grid, Row, Site, find, lot_of};
@@ -104,7 +105,7 @@ pub(crate) fn lot_numbers(
     requires vertices { order.now.n ≡ length homes.now }
     ensures numbers { IfOk result (λ v. v.items ≡ map (λ e. lot_in grid (slice_index homes.now e.u) (slice_index homes.now e.v)) order.now.edges) }
     ensures below { IfOk result (λ v. AreKeys (2 * tiles_in grid - 1) v.items) }
-    ensures rising { IfOk result (λ _. AreRising order.now.edges) }
+    ensures rising { IfOk result (λ _. IsRising order.now.edges) }
     ensures edges { IfOk result (λ _. (e : ListedEdge) → IsIn e order.now.edges → IsEdgeAmong order.now.n e) }
 {
     let mut numbers = Vec::with_capacity(alloc, order.len() as usize)?;

@@ -10,4 +10,4 @@ overflow_mul-result c =
     omega (arith, few)
 
 pub returns-clause-small : goal.returns-clause-small
-returns-clause-small c = λ few. record { columns = grid-columns c.args.self c.requires; rows = grid-rows c.args.self c.requires; few = ? }
+returns-clause-small c = λ few. record { columns = grid-columns c.args.self c.requires; rows = grid-rows c.args.self c.requires; few = subst (λ (g : Grid). tiles_in g ≤ 65536) c.grid-grid.ensures few }

@@ -4,3 +4,5 @@ pub mod Counting
 pub mod Growing
 pub mod Laying
 pub mod Scatter
+pub mod Parts
+pub mod Mothers

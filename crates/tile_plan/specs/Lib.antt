@@ -5,3 +5,4 @@ pub mod Frames
 pub mod Placing
 pub mod Plan
 pub mod PlanFields
+pub mod Laws

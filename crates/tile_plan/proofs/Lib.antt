@@ -6,3 +6,4 @@ pub mod Laying
 pub mod Scatter
 pub mod Parts
 pub mod Mothers
+pub mod LotNumbers

@@ -7,3 +7,4 @@ pub mod Scatter
 pub mod Parts
 pub mod Mothers
 pub mod LotNumbers
+pub mod Agreeing

@@ -87,7 +87,7 @@ number-below n (Merge by k x y) s fits = omega arith
 pub record HalvesAt (p : TilePlan) (m : ℕ) : Type 0 where
   pub at : IsMergeAt p m
   pub fits : at.s.first_tile + tiles at.x + tiles at.y ≤ tile_count p
-  pub number : own (tile_count p) at.x at.y at.s ≡ m
+  pub own_is : own (tile_count p) at.x at.y at.s ≡ m
   pub left_is : left p m ≡ number (tile_count p) at.x (left_site (tile_count p) at.x at.y at.s)
   pub right_is : right p m ≡ number (tile_count p) at.y (right_site (tile_count p) at.x at.y at.s)
   pub left_part : part p (left p m) ≡ record { tree = at.x; site = left_site (tile_count p) at.x at.y at.s }
@@ -103,7 +103,7 @@ halves-at p m h low high =
     record {
       at = a;
       fits = (let fits = part-fits p m q h f in omega (arith, fits));
-      number = f.number;
+      own_is = f.number;
       left_is = l;
       right_is = r;
       left_part = ap (part p) l ∙ left-part p m a.by a.k a.x a.y a.s h f;
@@ -123,14 +123,14 @@ has_halves p m h low high =
     let r_tiles : tiles_of p (right p m) ≡ tiles a.y = ap (λ (z : Part). tiles z.tree) v.right_part in
     let l_low = number-below (tile_count p) a.x (left_site (tile_count p) a.x a.y a.s) (let fits = v.fits in omega arith) in
     let r_low = number-below (tile_count p) a.y (right_site (tile_count p) a.x a.y a.s) (let fits = v.fits in omega arith) in
-    let number = v.number in
+    let own_is = v.own_is in
     let l_is = v.left_is in
     let r_is = v.right_is in
     record {
-      left_below = omega (arith, l_is, l_low, number);
-      right_below = omega (arith, r_is, r_low, number);
-      left_mother = ap (λ (z : Part). z.site.mother) v.left_part ∙ number;
-      right_mother = ap (λ (z : Part). z.site.mother) v.right_part ∙ number;
+      left_below = omega (arith, l_is, l_low, own_is);
+      right_below = omega (arith, r_is, r_low, own_is);
+      left_mother = ap (λ (z : Part). z.site.mother) v.left_part ∙ own_is;
+      right_mother = ap (λ (z : Part). z.site.mother) v.right_part ∙ own_is;
       left_weight = ap (λ (z : Part). z.site.weight) v.left_part;
       right_weight = ap (λ (z : Part). z.site.weight) v.right_part;
       left_first = l_first ∙ sym first;

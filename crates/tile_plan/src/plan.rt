@@ -93,7 +93,7 @@ fn lots_of(
     ensures rising { IfOk result (λ _. IsRising order.now.edges) }
     ensures edges { IfOk result (λ _. (e : ListedEdge) → IsIn e order.now.edges → IsEdgeAmong order.now.n e) }
     ensures few { IfOk result (λ _. length order.now.edges ≤ 4194304) }
-    ensures lots { IfOk result (λ lots. (q : TilePlan) → q.edges ≡ order.now.edges → grid ≡ grid_of q
+    ensures lots { IfOk result (λ lots. (q : TilePlan) → IsPlan q → q.edges ≡ order.now.edges → grid ≡ grid_of q
         → IsTable (home q) (vertices q) homes.now → IsTable (place_of q) (vertices q) places.now → HoldsLots q lots) }
 {
     let numbers = tables::lot_numbers(alloc, order, grid, homes)?;

@@ -105,6 +105,7 @@ pub(crate) fn lot_numbers(
     requires vertices { order.now.n ≡ length homes.now }
     ensures numbers { IfOk result (λ v. v.items ≡ map (λ e. lot_in grid (slice_index homes.now e.u) (slice_index homes.now e.v)) order.now.edges) }
     ensures below { IfOk result (λ v. AreKeys (2 * tiles_in grid - 1) v.items) }
+    ensures few { IfOk result (λ _. length order.now.edges ≤ 4194304) }
     ensures rising { IfOk result (λ _. IsRising order.now.edges) }
     ensures edges { IfOk result (λ _. (e : ListedEdge) → IsIn e order.now.edges → IsEdgeAmong order.now.n e) }
 {

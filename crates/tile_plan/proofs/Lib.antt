@@ -8,3 +8,4 @@ pub mod Parts
 pub mod Mothers
 pub mod LotNumbers
 pub mod Agreeing
+pub mod Ranges

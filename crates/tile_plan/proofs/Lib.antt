@@ -9,3 +9,4 @@ pub mod Mothers
 pub mod LotNumbers
 pub mod Agreeing
 pub mod Ranges
+pub mod Reading

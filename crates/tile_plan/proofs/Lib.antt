@@ -10,3 +10,4 @@ pub mod LotNumbers
 pub mod Agreeing
 pub mod Ranges
 pub mod Reading
+pub mod Edges

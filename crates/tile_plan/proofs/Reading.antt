@@ -17,6 +17,8 @@ use Rattle.tile_plan.specs.Placing.{IsTable}
 use Rattle.tile_plan.specs.Plan.{TilePlan, IsPlan, grid_of, tile_count, part_count, root, vertices, part, home, place_of, start, left, right, mother, weight, first_tile, tiles_of, parent, side_of, room_tiles, lot_between_vertices, lot_edges}
 use Rattle.tile_plan.specs.PlanFields.{HoldsPlaces, HoldsLots, HoldsPlan, plan_of}
 use Rattle.tile_plan.specs.declared.site.Row.{Row}
+use Rattle.tile_plan.specs.declared.site.Side.{Side}
+use Rattle.tile_plan.specs.declared.site.Side.TheVariants as sides
 use Rattle.tile_plan.specs.declared.site.Site.{Site}
 use Rattle.tile_plan.specs.declared.site.Grid.{Grid}
 use Rattle.tile_plan.specs.declared.frame.Frame.{Frame}
@@ -27,7 +29,7 @@ use Rattle.tile_plan.proofs.Mothers.{plan-tiles, has_mother}
 use Rattle.hg_base.proofs.Pigeons.{Into, misses_none}
 use Rattle.hg_base.proofs.Counts.{least_below}
 use Rattle.tile_plan.specs.declared.plan.Places.{Places}
-use Rattle.tile_plan.proofs.Ranges.{is_somewhere, start-rises, start-within, room-is, places-once, places-below}
+use Rattle.tile_plan.proofs.Ranges.{is_somewhere, start-rises, start-within, room-is, is_tile, places-once, places-below}
 
 -- what the fields hold of the plan that contracts see
 pub record HoldsAs (q : TilePlan) (p : Inside) : Type 0 where
@@ -119,3 +121,17 @@ vertex-read q place v p h hp l read =
     let long : length p.vertices.items ≡ vertices q = hp.long in
     let is : v ≡ some.0 = get_or_read p.vertices.items place v (omega arith) read 0 ∙ ap (slice_index p.vertices.items) (sym some.1.1) ∙ hp.at some.0 some.1.0 in
     record { value = ap (place_of q) is ∙ some.1.1; below = (let low : some.0 < vertices q = some.1.0 in omega arith) }
+
+-- the parent of a part that isn't the root
+pub parent-left : (q : TilePlan) (i : ℕ) (row : Row) → IsRow q i row → (i ≡ root q → ⊥) → row.site.weight ≡ 1 → ◌≡◌ {A = Option (ℕ × Side)} (Some (row.site.mother, sides.Left)) (parent q i)
+parent-left q i row h off one = rw (eq-false i (root q) off, ← h.mother, eq-eqb (weight q i) 1 (sym h.weight ∙ one)) refl
+
+pub parent-right : (q : TilePlan) (i : ℕ) (row : Row) → IsRow q i row → (i ≡ root q → ⊥) → (row.site.weight ≡ 1 → ⊥) → ◌≡◌ {A = Option (ℕ × Side)} (Some (row.site.mother, sides.Right)) (parent q i)
+parent-right q i row h off two = rw (eq-false i (root q) off, ← h.mother, eq-false (weight q i) 1 (λ e. two (h.weight ∙ e))) refl
+
+-- the room of a tile stays among the tiles
+pub room-at : (q : TilePlan) (t : ℕ) → IsPlan q → t < tile_count q → t + room_tiles q t ≤ tile_count q
+room-at q t h l =
+    let tile = is_tile q t h l in
+    let at = is_somewhere q t h (omega arith) in
+    subst (λ (k : ℕ). k + room_tiles q k ≤ tile_count q) tile.first at.room_tiles

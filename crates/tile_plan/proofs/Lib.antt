@@ -11,3 +11,4 @@ pub mod Agreeing
 pub mod Ranges
 pub mod Reading
 pub mod Edges
+pub mod RootEdges

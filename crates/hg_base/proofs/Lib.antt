@@ -37,3 +37,4 @@ pub mod Leasts
 pub mod KeyLabels
 pub mod Saliencies
 pub mod KeyClasses
+pub mod CountMore

@@ -5,3 +5,5 @@ pub mod Reading
 pub mod Steps
 pub mod Endings
 pub mod Forms
+pub mod Grids
+pub mod Generating

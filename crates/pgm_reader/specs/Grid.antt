@@ -1,5 +1,6 @@
 -- The graph of a picture: its pixels in raster order are the vertices, and neighbours are joined.
-use Rattle.std.specs.Prelude.{ℕ, ◌+◌, ◌-◌, ◌*◌, ◌/◌, ◌%◌, nat_lt, if◌then◌else◌, List, [], ◌∷◌, ◌++◌, map, slice_index}
+use Rattle.std.specs.Prelude.{ℕ, ◌+◌, ◌-◌, ◌*◌, ◌/◌, ◌%◌, nat_lt, if◌then◌else◌, List, [], ◌∷◌, ◌++◌, map, slice_get, unwrap_or}
+use Rattle.std.specs.Int.{abs_diff}
 use Rattle.std.specs.List.{flat_map, range_with_len}
 use Rattle.hg_base.specs.Graph.{WeightedGraph, with_unit_areas}
 use Rattle.hg_base.specs.declared.graph.Edge.{Edge}
@@ -21,13 +22,13 @@ below_of w h i = if nat_lt (i / w + 1) h then (i, i + w) ∷ [] else []
 abbrev pub links : ℕ → ℕ → List Link
 links w h = flat_map (λ i. right_of w i ++ below_of w h i) (range_with_len 0 (w * h))
 
--- the difference of two greys
-abbrev pub difference : ℕ → ℕ → ℕ
-difference a b = (a - b) + (b - a)
+-- the grey of a pixel, or 0 where there is none
+abbrev pub grey : List ℕ → ℕ → ℕ
+grey samples i = unwrap_or (slice_get samples i) 0
 
--- an edge between two pixels, which weighs the difference of their greys
+-- an edge between two pixels, which weighs the absolute difference of their greys
 abbrev pub edge_between : List ℕ → Link → Edge
-edge_between samples link = record { u = link.0; v = link.1; w = difference (slice_index samples link.0) (slice_index samples link.1) }
+edge_between samples link = record { u = link.0; v = link.1; w = abs_diff (grey samples link.0) (grey samples link.1) }
 
 -- the graph of a picture, in which each pixel is joined to those beside it
 abbrev pub graph_of : Raster → WeightedGraph

@@ -24,6 +24,15 @@ fn samples(alloc: Global, count: u32, seed: u32) -> Result<Vec<u16>, AllocError>
     Ok(samples)
 }
 
+fn made(alloc: Global, side: u32, seed: u32) -> Result<Picture, AllocError>
+    requires some { 1 ≤ side }
+    requires most { side ≤ 1024 }
+    ensures { IfOk result (λ p. p ≡ made side seed) }
+{
+    let samples = samples(alloc, side * side, seed)?;
+    Ok(Picture::new(side, side, 255, samples))
+}
+
 /// The square picture of this side, from 1 to 1,024, and this seed. The greatest value is 255, and each sample is the
 /// highest byte of the next state of a linear congruential generator. The error is want of memory.
 pub fn make_picture(alloc: Global, side: u32, seed: u32) -> Result<Picture, OutOfMemory>
@@ -31,6 +40,5 @@ pub fn make_picture(alloc: Global, side: u32, seed: u32) -> Result<Picture, OutO
     requires most { side ≤ 1024 }
     ensures { IfOk result (λ p. p ≡ made side seed) }
 {
-    let samples = samples(alloc, side * side, seed).map_err(|_| OutOfMemory)?;
-    Ok(Picture::new(side, side, 255, samples))
+    made(alloc, side, seed).map_err(|_| OutOfMemory)
 }

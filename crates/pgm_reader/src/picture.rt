@@ -43,6 +43,7 @@ impl Picture {
     pub fn width(&self) -> u32
         ensures value { result ≡ self.now.width }
         ensures some { 1 ≤ result }
+        ensures picture { IsRaster self.now }
     {
         self.width
     }
@@ -51,6 +52,7 @@ impl Picture {
     pub fn height(&self) -> u32
         ensures value { result ≡ self.now.height }
         ensures some { 1 ≤ result }
+        ensures picture { IsRaster self.now }
     {
         self.height
     }

@@ -12,4 +12,4 @@ returns-else-first-eq2 c =
     c.ends_token.ensures ∙ sym (form-more c.args.first.now (sym c.starts_with.ensures.value ∙ c.if-starts_with.true) more)
 
 pub returns-else-starts_with : goal.returns-else-starts_with
-returns-else-starts_with c = sym (form-other c.args.first.now (sym c.starts_with.ensures.value ∙ c.if-starts_with.false))
+returns-else-starts_with c = c.if-starts_with.false ∙ sym (form-other c.args.first.now (sym c.starts_with.ensures.value ∙ c.if-starts_with.false))

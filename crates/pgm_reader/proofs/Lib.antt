@@ -7,3 +7,4 @@ pub mod Endings
 pub mod Forms
 pub mod Grids
 pub mod Generating
+pub mod Spelled

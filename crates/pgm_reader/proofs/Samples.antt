@@ -19,11 +19,11 @@ some-left n = grind arith
 two-left : (n : ℕ) → nat_lt (suc (suc n)) 2 ≡ false
 two-left n = grind arith
 
-samples-one : (end max k place b : ℕ) (rest : List ℕ) → nat_lt max 256 ≡ true → samples end max (suc k) place (b ∷ rest) ≡ judged end max k place b (place + 1) rest
+pub samples-one : (end max k place b : ℕ) (rest : List ℕ) → nat_lt max 256 ≡ true → samples end max (suc k) place (b ∷ rest) ≡ judged end max k place b (place + 1) rest
 unfolding samples
 samples-one end max k place b rest h = rw (h, some-left (length rest), zero-add) refl
 
-samples-two : (end max k place high low : ℕ) (rest : List ℕ) → nat_lt max 256 ≡ false → samples end max (suc k) place (high ∷ low ∷ rest) ≡ judged end max k place (high * 256 + low) (place + 2) rest
+pub samples-two : (end max k place high low : ℕ) (rest : List ℕ) → nat_lt max 256 ≡ false → samples end max (suc k) place (high ∷ low ∷ rest) ≡ judged end max k place (high * 256 + low) (place + 2) rest
 unfolding samples
 samples-two end max k place high low rest h = rw (h, two-left (length rest), zero-add) refl
 

@@ -8,3 +8,4 @@ pub mod Forms
 pub mod Grids
 pub mod Generating
 pub mod Spelled
+pub mod Unspelled

@@ -10,7 +10,7 @@ use Rattle.pgm_reader.specs.Pgm.{samples}
 use Rattle.pgm_reader.specs.Progress.{Progress, from_samples, with_samples}
 
 -- a sample that begins at this place, and those after it
-abbrev judged : ℕ → ℕ → ℕ → ℕ → ℕ → ℕ → List ℕ → Result (List ℕ) InputFault
+abbrev pub judged : ℕ → ℕ → ℕ → ℕ → ℕ → ℕ → List ℕ → Result (List ℕ) InputFault
 judged end max k place s next rest = if nat_lt max s then fault SampleAboveMax place s else (samples end max k next rest >>= λ more. Ok (s ∷ more))
 
 some-left : (n : ℕ) → nat_lt (suc n) 1 ≡ false

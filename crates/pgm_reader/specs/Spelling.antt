@@ -1,6 +1,6 @@
 -- How a picture is spelled: three numbers, a byte of white space, and the bytes of the samples.
 use Rattle.std.specs.Prelude.{◌≡◌, ℕ, ◌≤◌, ◌/◌, ◌%◌, true, false, nat_lt, if◌then◌else◌, List, [], ◌∷◌, drop, Some}
-use Rattle.std.specs.List.{flat_map, AllByRecursion}
+use Rattle.std.specs.List.{flat_map}
 use Rattle.pgm_reader.specs.Raster.{Raster, IsRaster}
 use Rattle.pgm_reader.specs.Pgm.{CutToken, cut}
 

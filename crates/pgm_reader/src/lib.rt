@@ -13,7 +13,7 @@ mod stage;
 
 pub use decoder::{PictureDecoder, is_picture, read_picture};
 pub use grid::graph_of;
-pub use laws::spelled_pictures_are_read;
+pub use laws::pictures_are_spellings;
 pub use made::make_picture;
 pub use picture::Picture;
 

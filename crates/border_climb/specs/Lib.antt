@@ -1,5 +1,2 @@
-pub mod Slots
-pub mod Given
-pub mod Chains
-pub mod PartFields
 pub mod Stands
+pub mod Linked

@@ -46,14 +46,14 @@ filter-tail (g ∷ t) h k f r eq =
           filter-tail t h.1 k f r there ∙ sym (own f.rank t (omega arith)))
     ]
   where
-    own : (m : ℕ) (l : EdgeList) → g.rank < suc m → filter (λ e. nat_le (suc m) e.rank) (g ∷ l) ≡ filter (λ e. nat_le (suc m) e.rank) l
-    own m l lt = rw (le-than m (omega arith)) refl
-
     le-than : (m : ℕ) → g.rank ≤ m → nat_le (suc m) g.rank ≡ false
     le-than m le = elim (cases_Bool (nat_le (suc m) g.rank)) [
       | inl yes' ↦ absurd (let up : suc m ≤ g.rank = leb-true (suc m) g.rank yes' in omega arith)
       | inr no' ↦ no'
     ]
+
+    own : (m : ℕ) (l : EdgeList) → g.rank < suc m → filter (λ e. nat_le (suc m) e.rank) (g ∷ l) ≡ filter (λ e. nat_le (suc m) e.rank) l
+    own m l lt = rw (le-than m (omega arith)) refl
 
 -- an edge of the rest of a chain: of the chain, and of that rank or more
 pub IsIn-rest : (s : EdgeList) (x k : ℕ) (f : ListedEdge) → IsIn f (rest s x k) → IsIn f (chain s x) × (k ≤ f.rank)
@@ -125,7 +125,7 @@ Stands-linked part s b l n = record {
     met id used = go (cell_at part.region id) refl used
       where
         go : (o : Option Cell) → cell_at part.region id ≡ o → IsSome o → IsMetFromPlace part id
-        go None eq u = absurd u
+        go None eq u = absurd (true≢false (sym u))
         go (Some c) eq u =
             let q = l.cells id c eq in
             let cov = b.first_ends q.edge (IsIn-joins_kept s q.edge q.joins).0 in
@@ -175,7 +175,7 @@ linked-Stands part s st = record {
   where
     cells : (id : ℕ) (c : Cell) → cell_at part.region id ≡ Some c → IsCellOf part.region s c
     cells id c is =
-        let m = st.met id (subst (λ (o : Option Cell). IsSome o) (sym is) tt) in
+        let m = st.met id (subst (λ (o : Option Cell). IsSome o) (sym is) refl) in
         along part.region s st.apart (chain s m.0) m.0 0 (leaf_of part.region m.0) (rest-whole s m.0) (st.traces m.0 m.1.0) m.1.1.0 id m.1.1.1 c is
 
 pub between-Stands : (part : PartState) (s : EdgeList) → Stands part s → AreBetween part.region s

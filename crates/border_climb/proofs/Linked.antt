@@ -10,11 +10,12 @@ use Rattle.hg_base.proofs.Sets.{IsIn-joins, IsIn-joins_kept, IsOnChain, IsIn-cha
 use Rattle.hg_base.proofs.Fronts.{apart-one}
 use Rattle.hg_base.proofs.Leaving.{leaves}
 use Rattle.hg_base.proofs.Merged.{next-row, joined-to_end}
-use Rattle.hg_base.proofs.Next.{IsIn-leaving_kept}
+use Rattle.hg_base.proofs.Next.{IsIn-leaving, IsIn-leaving_kept}
+use Rattle.hg_base.proofs.Ends.{next-is}
 use Rattle.node_region.specs.Pool.{CellPool, IsCovered, cell_at, leaf_of, IsUsed}
 use Rattle.node_region.specs.declared.cell.Cell.{Cell}
 use Rattle.border_climb.specs.Stands.{PartState, IsClimb, IsTrace, IsMet, IsMetFromPlace, Stands}
-use Rattle.border_climb.specs.Linked.{HasRank, Points, IsCellOf, AreLinked, AreBetween}
+use Rattle.border_climb.specs.Linked.{HasRank, Points, IsCellOf, AreLinked, AreLinkedFrom, AreBetween}
 
 -- the chain of x from rank k on
 abbrev pub rest : EdgeList → ℕ → ℕ → EdgeList
@@ -60,27 +61,33 @@ pub IsIn-rest : (s : EdgeList) (x k : ℕ) (f : ListedEdge) → IsIn f (rest s x
 IsIn-rest s x k f i = let p = IsIn-kept (λ (e : ListedEdge). nat_le k e.rank) f (chain s x) i in (p.1, leb-true k f.rank p.0)
 
 -- a cell of the rank of an edge of a joining edge is of that edge
-cell-edge : (pool : CellPool) (s : EdgeList) → AreApart s → (c : Cell) (q : IsCellOf pool s c) (f : ListedEdge) → IsIn f s → c.rank ≡ f.rank → q.edge ≡ f
+pub cell-edge : (pool : CellPool) (s : EdgeList) → AreApart s → (c : Cell) (q : IsCellOf pool s c) (f : ListedEdge) → IsIn f s → c.rank ≡ f.rank → q.edge ≡ f
 cell-edge pool s h c q f i r = apart-one s h q.edge f (IsIn-joins_kept s q.edge q.joins).0 i (sym q.rank ∙ r)
 
 -- what is next for f's first end behind f is next for each vertex that f leads out from
 pub next-behind : (s : EdgeList) → AreApart s → (x : ℕ) (f : ListedEdge) → IsIn f s → leaves s x f ≡ true → next s x (suc f.rank) ≡ next s f.u (suc f.rank)
 next-behind s h x f i out = next-row s h x f.u (suc f.rank) (joined-to_end s f x i out)
 
+-- the links of all cells are those of the cells from a rank on
+pub linked-from : (pool : CellPool) (s : EdgeList) → AreLinked pool s → (l : ℕ) → AreLinkedFrom pool s l
+linked-from pool s h l = record { cells = λ id c is low. h.cells id c is; alone = h.alone }
+
 -- the climb from a link that points at what comes next meets the rest of the chain
-climbs : (pool : CellPool) (s : EdgeList) → AreApart s → AreLinked pool s → (t : EdgeList) (x k : ℕ) (o : Option ℕ) → rest s x k ≡ t → Points pool o (first_edge t) → IsClimb pool o (ranks t)
-climbs pool s h l [] x k None eq p = tt
-climbs pool s h l [] x k (Some id) eq p = absurd p
-climbs pool s h l (f ∷ t) x k None eq p = absurd p
-climbs pool s h l (f ∷ t) x k (Some id) eq p =
+climbs : (pool : CellPool) (s : EdgeList) → AreApart s → (m : ℕ) → AreLinkedFrom pool s m → (t : EdgeList) (x k : ℕ) (o : Option ℕ) → m ≤ k → rest s x k ≡ t → Points pool o (first_edge t) → IsClimb pool o (ranks t)
+climbs pool s h m l [] x k None low eq p = tt
+climbs pool s h m l [] x k (Some id) low eq p = absurd p
+climbs pool s h m l (f ∷ t) x k None low eq p = absurd p
+climbs pool s h m l (f ∷ t) x k (Some id) low eq p =
     let i = IsIn-rest s x k f (subst (λ (r : EdgeList). IsIn f r) (sym eq) (inl refl)) in
+    let above : k ≤ f.rank = i.1 in
+    let level : p.cell.rank ≡ f.rank = p.has in
     let out = IsIn-leaving_kept s x f i.0 in
-    let q = l.cells id p.cell p.is in
+    let q = l.cells id p.cell p.is (omega arith) in
     let tail : t ≡ rest s x (suc f.rank) = filter-tail (chain s x) (IsRising-chain s x h) k f t eq in
     let up : Points pool p.cell.up (next s f.u (suc f.rank)) = subst (λ (g : ListedEdge). Points pool p.cell.up (next s g.u (suc g.rank))) (cell-edge pool s h p.cell q f out.0 p.has) q.up in
     let up' : Points pool p.cell.up (first_edge t) = subst (λ (r : EdgeList). Points pool p.cell.up (first_edge r)) (sym tail)
         (subst (λ (w : Option ListedEdge). Points pool p.cell.up w) (sym (next-behind s h x f out.0 out.1)) up) in
-    (p.cell, (p.is, (p.has, climbs pool s h l t x (suc f.rank) p.cell.up (sym tail) up')))
+    (p.cell, (p.is, (p.has, climbs pool s h m l t x (suc f.rank) p.cell.up (omega arith) (sym tail) up')))
 
 -- a climb meets a cell of each rank of its list
 meets : (pool : CellPool) (t : EdgeList) (o : Option ℕ) → IsClimb pool o (ranks t) → (f : ListedEdge) → IsIn f t → (d : ℕ) × ((id : ℕ) × (IsMet pool d o id × HasRank pool id f.rank))
@@ -93,12 +100,36 @@ meets pool (g ∷ t) (Some id) c f (inr later) =
     (suc m.0, (m.1.0, ((c.0, (c.1.0, m.1.1.0)), m.1.1.1)))
 
 -- From a link that points at what comes next for x from rank k on, each edge of the chain from there on is met.
-pub met-chain : (pool : CellPool) (s : EdgeList) → AreApart s → AreLinked pool s → (x k : ℕ) (o : Option ℕ) → Points pool o (next s x k) →
+pub met-chain : (pool : CellPool) (s : EdgeList) → AreApart s → (m : ℕ) → AreLinkedFrom pool s m → (x k : ℕ) (o : Option ℕ) → m ≤ k → Points pool o (next s x k) →
     (f : ListedEdge) → IsIn f (chain s x) → k ≤ f.rank → (id : ℕ) → HasRank pool id f.rank → (d : ℕ) × IsMet pool d o id
-met-chain pool s h l x k o p f i up id r =
-    let m = meets pool (rest s x k) o (climbs pool s h l (rest s x k) x k o refl p) f
+met-chain pool s h m l x k o low p f i up id r =
+    let w = meets pool (rest s x k) o (climbs pool s h m l (rest s x k) x k o low refl p) f
         (IsIn-filter (λ (e : ListedEdge). nat_le k e.rank) f (chain s x) (le-leb k f.rank up) i) in
-    (m.0, subst (λ (j : ℕ). IsMet pool m.0 o j) (l.alone m.1.0 id m.1.1.1.cell r.cell m.1.1.1.is r.is (m.1.1.1.has ∙ sym r.has)) m.1.1.0)
+    (w.0, subst (λ (j : ℕ). IsMet pool w.0 o j) (l.alone w.1.0 id w.1.1.1.cell r.cell w.1.1.1.is r.is (w.1.1.1.has ∙ sym r.has)) w.1.1.0)
+
+-- And what is met is of an edge of the chain from there on.
+pub chain-met : (pool : CellPool) (s : EdgeList) → AreApart s → (m : ℕ) → AreLinkedFrom pool s m → (d x k : ℕ) (o : Option ℕ) (w : Option ListedEdge) → m ≤ k → next s x k ≡ w → Points pool o w →
+    (id : ℕ) → IsMet pool d o id → (c : Cell) → cell_at pool id ≡ Some c → (f : ListedEdge) × (IsIn f (chain s x) × ((k ≤ f.rank) × (c.rank ≡ f.rank)))
+chain-met pool s h m l d x k None w low eq p id met c is = absurd met
+chain-met pool s h m l d x k (Some i) None low eq p id met c is = absurd p
+chain-met pool s h m l zero x k (Some i) (Some f) low eq p id met c is =
+    let n = next-is s h x k f eq in
+    let same : Some p.cell ≡ Some c = sym p.is ∙ ap (λ (j : ℕ). cell_at pool j) met ∙ is in
+    let same' : p.cell ≡ c = cc in
+    (f, (IsIn-leaving s x f n.0 n.1.0, (n.1.1, sym (ap (λ (y : Cell). y.rank) same') ∙ p.has)))
+chain-met pool s h m l (suc d) x k (Some i) (Some f) low eq p id met c is =
+    let n = next-is s h x k f eq in
+    let above : k ≤ f.rank = n.1.1 in
+    let same : Some p.cell ≡ Some met.0 = sym p.is ∙ met.1.0 in
+    let same' : p.cell ≡ met.0 = cc in
+    let level : p.cell.rank ≡ f.rank = p.has in
+    let q = l.cells i p.cell p.is (omega arith) in
+    let up : Points pool p.cell.up (next s f.u (suc f.rank)) = subst (λ (g : ListedEdge). Points pool p.cell.up (next s g.u (suc g.rank))) (cell-edge pool s h p.cell q f n.0 p.has) q.up in
+    let further = chain-met pool s h m l d x (suc f.rank) p.cell.up (next s x (suc f.rank)) (omega arith) refl
+        (subst (λ (v : Option ListedEdge). Points pool p.cell.up v) (sym (next-behind s h x f n.0 n.1.0)) up)
+        id (subst (λ (y : Cell). IsMet pool d y.up id) (sym same') met.1.1) c is in
+    let beyond : suc f.rank ≤ further.0.rank = further.1.1.0 in
+    (further.0, (further.1.0, (omega arith, further.1.1.1)))
 
 -- from rank 0 on a chain is whole
 pub rest-whole : (s : EdgeList) (x : ℕ) → rest s x 0 ≡ chain s x
@@ -115,7 +146,7 @@ pub Stands-linked : (part : PartState) (s : EdgeList) → AreBetween part.region
 Stands-linked part s b l n = record {
   first_ends = b.first_ends; second_ends = b.second_ends; two_ends = b.two_ends; apart = b.apart; small = b.small;
   traces = λ x cov. subst (λ (t : EdgeList). IsClimb part.region (leaf_of part.region x) (ranks t)) (rest-whole s x)
-      (climbs part.region s b.apart l (rest s x 0) x 0 (leaf_of part.region x) refl (l.leafs x cov));
+      (climbs part.region s b.apart 0 (linked-from part.region s l 0) (rest s x 0) x 0 (leaf_of part.region x) (omega arith) refl (l.leafs x cov));
   met = met;
   alone = l.alone;
   given = n;
@@ -129,7 +160,7 @@ Stands-linked part s b l n = record {
         go (Some c) eq u =
             let q = l.cells id c eq in
             let cov = b.first_ends q.edge (IsIn-joins_kept s q.edge q.joins).0 in
-            (q.edge.u, (cov, met-chain part.region s b.apart l q.edge.u 0 (leaf_of part.region q.edge.u) (l.leafs q.edge.u cov) q.edge (own-chain s q.edge q.joins) (omega arith) id (record { cell = c; is = eq; has = q.rank })))
+            (q.edge.u, (cov, met-chain part.region s b.apart 0 (linked-from part.region s l 0) q.edge.u 0 (leaf_of part.region q.edge.u) (omega arith) (l.leafs q.edge.u cov) q.edge (own-chain s q.edge q.joins) (omega arith) id (record { cell = c; is = eq; has = q.rank })))
 
 -- a climb begins at the cell of the first rank
 points-first : (pool : CellPool) (t : EdgeList) (o : Option ℕ) → IsClimb pool o (ranks t) → Points pool o (first_edge t)

@@ -1,2 +1,4 @@
 pub mod Stands
 pub mod Linked
+pub mod Notes
+pub mod Splicing

@@ -1,5 +1,5 @@
 -- What "stands for" says of the links: each points at the cell of the edge that comes next.
-use Rattle.std.specs.Prelude.{◌≡◌, ◌≢◌, ℕ, suc, ◌<◌, ◌^◌, Option, Some, None}
+use Rattle.std.specs.Prelude.{◌≡◌, ◌≢◌, ℕ, suc, ◌<◌, ◌≤◌, ◌^◌, Option, Some, None}
 use Rattle.hg_base.specs.Edges.{ListedEdge, EdgeList, IsIn, AreApart, joins, next}
 use Rattle.node_region.specs.Pool.{CellPool, IsCovered, cell_at, leaf_of}
 use Rattle.node_region.specs.declared.cell.Cell.{Cell}
@@ -28,6 +28,11 @@ pub record IsCellOf (pool : CellPool) (s : EdgeList) (c : Cell) : Type 0 where
 pub record AreLinked (pool : CellPool) (s : EdgeList) : Type 0 where
   pub leafs : (x : ℕ) → IsCovered pool x → Points pool (leaf_of pool x) (next s x 0)
   pub cells : (id : ℕ) (c : Cell) → cell_at pool id ≡ Some c → IsCellOf pool s c
+  pub alone : (i j : ℕ) (b c : Cell) → cell_at pool i ≡ Some b → cell_at pool j ≡ Some c → b.rank ≡ c.rank → i ≡ j
+
+-- the same of the cells of rank l or more alone
+pub record AreLinkedFrom (pool : CellPool) (s : EdgeList) (l : ℕ) : Type 0 where
+  pub cells : (id : ℕ) (c : Cell) → cell_at pool id ≡ Some c → l ≤ c.rank → IsCellOf pool s c
   pub alone : (i j : ℕ) (b c : Cell) → cell_at pool i ≡ Some b → cell_at pool j ≡ Some c → b.rank ≡ c.rank → i ≡ j
 
 -- the edges are between covered places, with different ends and different ranks of 32 bits

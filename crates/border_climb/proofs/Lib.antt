@@ -1,3 +1,4 @@
 pub mod Linked
 pub mod Merging
 pub mod Closing
+pub mod Opening

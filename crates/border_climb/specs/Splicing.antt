@@ -1,5 +1,6 @@
 -- The states of a splice: the new edge's cell is put in, and the two chains above it are merged.
 use Rattle.std.specs.Prelude.{◌≡◌, ◌↔◌, ℕ, suc, ◌<◌, ◌≤◌, ◌⊎◌, ◌||◌, true, false, ◌∷◌, Option, Some, None}
+use Rattle.std.specs.Option.{option_map_or}
 use Rattle.hg_base.specs.Edges.{ListedEdge, EdgeList, IsIn, AreEnds, AreApart, Joined, joined, below, joins, chain, next}
 use Rattle.hg_base.specs.Splice.{ComesAfter}
 use Rattle.node_region.specs.Pool.{CellPool, IsCovered, cell_at, leaf_of}
@@ -54,3 +55,25 @@ pub record IsDropped (old new : CellPool) (id : ℕ) : Type 0 where
   pub kept : KeepsLeafs old new
   pub at : cell_at new id ≡ None
   pub others : (j : ℕ) → (j ≡ id → ⊥) → cell_at new j ≡ cell_at old j
+
+-- what stands above the last cell of a place's chain, or above the place itself
+abbrev pub up_of : CellPool → ℕ → Option ℕ → Option ℕ
+up_of pool place None = leaf_of pool place
+up_of pool place (Some id) = option_map_or (λ c. c.up) (cell_at pool id) None
+
+-- what stood above a place or one of its cells is now the new cell, exactly where it is the place a or b, or their last cell
+pub record IsOpenedCell (old : CellPool) (first second : Option ℕ) (id j : ℕ) (c : Cell) : Type 0 where
+  pub before : Cell
+  pub is : cell_at old j ≡ Some before
+  pub rank : c.rank ≡ before.rank
+  pub up : ((c.up ≡ Some id) × ((first ≡ Some j) ⊎ (second ≡ Some j))) ⊎ ((c.up ≡ before.up) × ((first ≡ Some j → ⊥) × (second ≡ Some j → ⊥)))
+
+-- A new cell of that rank stands above the last cells of two chains.
+pub record IsOpened (old new : CellPool) (a b : ℕ) (first second : Option ℕ) (id rank : ℕ) : Type 0 where
+  pub new_cell : cell_at new id ≡ Some (record { rank = rank; up = None })
+  pub kept : (j : ℕ) (c : Cell) → cell_at old j ≡ Some c → HasRank new j c.rank
+  pub cells : (j : ℕ) (c : Cell) → (j ≡ id → ⊥) → cell_at new j ≡ Some c → IsOpenedCell old first second id j c
+  pub covered : (x : ℕ) → IsCovered new x → IsCovered old x
+  pub leafs : (x : ℕ) → IsCovered new x →
+      ((leaf_of new x ≡ Some id) × (((x ≡ a) × (first ≡ None)) ⊎ ((x ≡ b) × (second ≡ None)))) ⊎
+      ((leaf_of new x ≡ leaf_of old x) × ((x ≡ a → first ≡ None → ⊥) × (x ≡ b → second ≡ None → ⊥)))

@@ -7,7 +7,7 @@ use Rattle.node_region.specs.declared.chunk.Chunk.{Chunk}
 use Rattle.node_region.specs.declared.chunk.At.{At}
 use Rattle.node_region.specs.declared.chunk.Slot.{Slot}
 use Rattle.node_region.specs.declared.chunk.Place.{Place}
-use Rattle.std.proofs.lemmas.List.FromFn.{map-range_with_len_more}
+use Rattle.std.proofs.lemmas.List.FromFn.{map-range_with_len_more, length-map-range_with_len}
 use Rattle.node_region.specs.Tables.{slots_of, places_of, start_of, AreInRow, IsAt, number_at, fresh_slot, fresh_slots}
 
 -- an element of one piece is replaced: so it is in the pieces put end to end
@@ -136,3 +136,21 @@ pub fresh-more : (first id : ℕ) → first ≤ id → fresh_slots first (id + 1
 fresh-more first id h =
     let one : id + 1 - first ≡ id - first + 1 = omega arith in
     rw one (map-range_with_len_more fresh_slot first (id - first) id (omega arith))
+
+-- the tables of both, one behind the other, stand in a row, and their numbers add up
+pub both-row : (first : ℕ) (xs ys zs : List Chunk) (m : ℕ) → zs ≡ xs ++ ys → AreInRow first xs → m ≡ length (slots_of xs) → AreInRow (first + m) ys → AreInRow first zs
+both-row first xs ys zs m joined row long behind = rw joined (row-append first xs ys row (rw long at behind))
+
+pub both-count : (xs ys zs : List Chunk) → zs ≡ xs ++ ys → length (slots_of zs) ≡ length (slots_of xs) + length (slots_of ys)
+both-count xs ys zs joined = rw (joined, flat_map-append (λ x. x.slots.items) xs ys) (length-append (slots_of xs) (slots_of ys))
+
+-- a list of one
+pub one-list : {X : Type 0} (xs ys : List X) (x : X) → xs ≡ [] → ys ≡ xs ++ x ∷ [] → ys ≡ x ∷ []
+one-list xs ys x none more = rw none at more
+
+-- one table of numbers that were never taken stands in a row
+pub one-row : (first count : ℕ) (c : Chunk) (chunks : List Chunk) → chunks ≡ c ∷ [] → c.first ≡ first → c.slots.items ≡ fresh_slots first count → length c.places.items ≡ count → AreInRow first chunks
+one-row first count c chunks one at slots places = rw one (at, (places ∙ sym (ap length slots ∙ length-map-range_with_len fresh_slot first count), tt))
+
+pub one-count : (first count : ℕ) (c : Chunk) (chunks : List Chunk) → chunks ≡ c ∷ [] → c.slots.items ≡ fresh_slots first count → count ≡ length (slots_of chunks)
+one-count first count c chunks one slots = rw one (sym (ap length (append-nil c.slots.items) ∙ ap length slots ∙ length-map-range_with_len fresh_slot first count))

@@ -21,7 +21,7 @@ pub record IsFree (t : Tables) (id : ℕ) : Type 0 where
 
 -- two lists of free numbers that have none in common
 pub record CanLink (t : Tables) (front behind : FreeList) : Type 0 where
-  pub free : (id : ℕ) → IsIn id (free_in t.first (slots_of t.chunks.items) front) → IsFree t id
+  pub free : (id : ℕ) → IsIn id (free_in t.first (slots_of t.chunks.items) front ++ free_in t.first (slots_of t.chunks.items) behind) → IsFree t id
   pub apart : AreDifferent (free_in t.first (slots_of t.chunks.items) front ++ free_in t.first (slots_of t.chunks.items) behind)
   pub tail : IsTail t.first (slots_of t.chunks.items) front
   pub behind_tail : IsTail t.first (slots_of t.chunks.items) behind

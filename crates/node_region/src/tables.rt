@@ -65,6 +65,8 @@ impl Tables {
         requires below { id < self.now.first + self.now.count }
         ensures at { IsAt self.now.chunks.items result }
         ensures number { self.now.first + number_at self.now.chunks.items result ≡ id }
+        ensures within { number_at self.now.chunks.items result < length (slots_of self.now.chunks.items) }
+        ensures within_places { number_at self.now.chunks.items result < length (places_of self.now.chunks.items) }
     {
         let mut low = 0;
         let mut high = self.chunks.len();
@@ -131,14 +133,10 @@ impl Tables {
         ensures chunks { length result.chunks.items ≡ length self.chunks.items + length other.chunks.items }
         ensures capacity { vec_capacity self.chunks ≤ vec_capacity result.chunks }
     {
-        let mut chunks = self.chunks;
-        for chunk in other.chunks {
-            chunks.push_reserved(chunk);
-        }
         Tables {
             first: self.first,
             count: self.count + other.count,
-            chunks,
+            chunks: put_behind(self.chunks, other.chunks),
         }
     }
 
@@ -163,6 +161,19 @@ impl Tables {
             tail: behind.tail,
         }
     }
+}
+
+// Moves tables behind others, whose list has place for them.
+fn put_behind(front: Vec<Chunk>, behind: Vec<Chunk>) -> Vec<Chunk>
+    requires { length front.items + length behind.items ≤ vec_capacity front }
+    ensures items { result.items ≡ front.items ++ behind.items }
+    ensures capacity { vec_capacity front ≤ vec_capacity result }
+{
+    let mut chunks = front;
+    for chunk in behind {
+        chunks.push_reserved(chunk);
+    }
+    chunks
 }
 
 // So many free numbers that were never taken, each followed by the next.

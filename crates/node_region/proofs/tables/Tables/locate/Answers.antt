@@ -1,6 +1,6 @@
 use Rattle.std.proofs.Common.{◌≡◌, ◌+◌, ◌-◌, ◌<◌, ◌≤◌, ◌/◌, length, arith}
 use Rattle.std.proofs.lemmas.Grind.{common_steps}
-use Rattle.node_region.proofs.Rows.{below-start, start-more, start-all}
+use Rattle.node_region.proofs.Rows.{below-start, places-all}
 use Rattle.node_region.proofs.tables.Tables.locate.Goals as goal
 
 pub loop-high-preserved-then-index-id : goal.loop-high-preserved-then-index-id
@@ -31,3 +31,14 @@ pub returns-clause-number : goal.returns-clause-number
 returns-clause-number c =
     let found = below-start c.args.self.now.first c.args.self.now.chunks.items c.args.self.now.in_row _ c.index-2.result.now (omega (arith, c.loop-high.invariant)) c.index-2.ensures in
     omega (arith, found, c.loop-high.invariant)
+
+pub returns-clause-within : goal.returns-clause-within
+returns-clause-within c =
+    let found = below-start c.args.self.now.first c.args.self.now.chunks.items c.args.self.now.in_row _ c.index-2.result.now (omega (arith, c.loop-high.invariant)) c.index-2.ensures in
+    omega (arith, found, c.loop-high.invariant, c.requires.below, c.args.self.now.counted)
+
+pub returns-clause-within_places : goal.returns-clause-within_places
+returns-clause-within_places c =
+    let found = below-start c.args.self.now.first c.args.self.now.chunks.items c.args.self.now.in_row _ c.index-2.result.now (omega (arith, c.loop-high.invariant)) c.index-2.ensures in
+    let long = places-all c.args.self.now.first c.args.self.now.chunks.items c.args.self.now.in_row in
+    omega (arith, found, long, c.loop-high.invariant, c.requires.below, c.args.self.now.counted)

@@ -2,3 +2,5 @@ pub mod Linked
 pub mod Merging
 pub mod Closing
 pub mod Opening
+pub mod Pools
+pub mod Ways

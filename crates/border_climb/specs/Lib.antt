@@ -2,3 +2,4 @@ pub mod Stands
 pub mod Linked
 pub mod Notes
 pub mod Splicing
+pub mod Climbs

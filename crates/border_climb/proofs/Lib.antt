@@ -4,3 +4,5 @@ pub mod Closing
 pub mod Opening
 pub mod Pools
 pub mod Ways
+pub mod Seams
+pub mod Writes

@@ -91,7 +91,7 @@ met-same p q s (suc d) (Some i) j m = (m.0, (s.cells i ∙ m.1.0, met-same p q s
 abbrev pub rank-same : (p q : CellPool) → SameLinks p q → (i r : ℕ) → HasRank p i r → HasRank q i r
 rank-same p q s i r h = record { cell = h.cell; is = s.cells i ∙ h.is; has = h.has }
 
-pub live-same : (p q : CellPool) → SameLinks p q → (h : Hint) → IsLive p h → IsLive q h
+abbrev pub live-same : (p q : CellPool) → SameLinks p q → (h : Hint) → IsLive p h → IsLive q h
 live-same p q s h v = record { cell = v.cell; is = s.cells h.cell ∙ v.is; turn = s.turns h.cell ∙ v.turn; fresh = v.fresh }
 
 -- one way up, and then another

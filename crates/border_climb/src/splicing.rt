@@ -1,15 +1,11 @@
-ghost use Rattle.std.specs.Prelude.{◌≡◌, ◌≢◌, ℕ, ◌<◌, ◌∷◌, [], Some, IfSome};
-ghost use Rattle.hg_base.specs.Edges.{ListedEdge, EdgeList};
-ghost use Rattle.hg_base.specs.Placed.{placed};
-ghost use Rattle.node_region.specs.Pool.{IsCovered, IsUsed, IsPool, cell_at};
+ghost use Rattle.std.specs.Prelude.{◌≡◌, ◌≢◌, ℕ, ◌<◌, ◌^◌, ◌⊎◌, Some, None, IfSome};
+ghost use Rattle.node_region.specs.Pool.{IsCovered, IsUsed};
 ghost use Rattle.border_climb.specs.Linked.{HasRank};
-ghost use Rattle.border_climb.specs.Notes.{IsSound};
-ghost use Rattle.border_climb.specs.Splicing.{up_of};
-ghost use Rattle.border_climb.specs.Climbs.{with_up, opened_pool};
+ghost use Rattle.border_climb.specs.Splicing.{up_of, rank_of, KeepsRange, SomeSeam, StepsTo, EndsIn};
+ghost use Rattle.border_climb.specs.Climbs.{with_up};
 
-
-
-
+use crate::climbing::{Met, climb};
+use crate::given::Given;
 use node_region::{Cell, Region};
 
 /// Where two chains are merged: the last cell that was linked, and what comes next on either chain.
@@ -54,4 +50,91 @@ fn link(region: &mut Region, id: u32, up: Option<u32>)
 {
     let rank = region.get(id).rank;
     region.set(id, Cell { rank, up });
+}
+
+// Links the seam to the lower of the two cells that come next, and runs up its chain to the last cell below the other.
+fn advance(region: &mut Region, last: u32, low: Met, high: Met) -> Seam
+    requires seam { SomeSeam region.old last (Some low.id) (Some high.id) }
+    requires low { HasRank region.old low.id low.rank }
+    requires high { HasRank region.old high.id high.rank }
+    requires lower { low.rank < high.rank }
+    ensures steps { StepsTo region.old last (Some low.id) (Some high.id) region.new result.last result.first result.second }
+    ensures rises { rank_of region.old last < rank_of region.new result.last }
+    ensures small { rank_of region.new result.last < 2 ^ 32 }
+    ensures range { KeepsRange region.old region.new }
+{
+    let next = climb(region, low, high.rank);
+    let first = region.get(next.id).up;
+    link(region, last, Some(low.id));
+    Seam {
+        last: next.id,
+        first,
+        second: Some(high.id),
+    }
+}
+
+// Which of the two cells that come next is the lower one, and a step from there.
+fn step(region: &mut Region, last: u32, first: u32, second: u32) -> Seam
+    requires seam { SomeSeam region.old last (Some first) (Some second) }
+    requires two { first ≢ second }
+    ensures steps { StepsTo region.old last (Some first) (Some second) region.new result.last result.first result.second }
+    ensures rises { rank_of region.old last < rank_of region.new result.last }
+    ensures small { rank_of region.new result.last < 2 ^ 32 }
+    ensures range { KeepsRange region.old region.new }
+{
+    let one = Met {
+        id: first,
+        rank: region.get(first).rank,
+    };
+    let other = Met {
+        id: second,
+        rank: region.get(second).rank,
+    };
+    if one.rank < other.rank {
+        advance(region, last, one, other)
+    } else {
+        advance(region, last, other, one)
+    }
+}
+
+// Both chains come to one cell, whose edge joins no more: its number is given back.
+fn replace(region: &mut Region, last: u32, id: u32) -> Given
+    requires { SomeSeam region.old last (Some id) (Some id) }
+    ensures ends { EndsIn region.old last (Some id) (Some id) region.new result }
+    ensures range { KeepsRange region.old region.new }
+{
+    let Cell { rank, up } = region.get(id);
+    link(region, last, up);
+    region.give_back(id);
+    Given::Replaced(rank)
+}
+
+// One of the two chains has ended: the seam is linked to the other.
+fn finish(region: &mut Region, seam: Seam) -> Given
+    requires seam { SomeSeam region.old seam.last seam.first seam.second }
+    requires one { (seam.first ≡ None) ⊎ (seam.second ≡ None) }
+    ensures ends { EndsIn region.old seam.last seam.first seam.second region.new result }
+    ensures range { KeepsRange region.old region.new }
+{
+    match seam.first {
+        Some(_) => link(region, seam.last, seam.first),
+        None => link(region, seam.last, seam.second),
+    }
+    Given::Joined
+}
+
+// Merges two chains into one in rising rank.
+fn merge(region: &mut Region, seam: Seam) -> Given
+    requires { SomeSeam region.old seam.last seam.first seam.second }
+    ensures ends { EndsIn region.old seam.last seam.first seam.second region.new result }
+    ensures range { KeepsRange region.old region.new }
+{
+    let mut seam = seam;
+    while let (Some(first), Some(second)) = (seam.first, seam.second) {
+        if first == second {
+            return replace(region, seam.last, first);
+        }
+        seam = step(region, seam.last, first, second);
+    }
+    finish(region, seam)
 }

@@ -6,3 +6,6 @@ pub mod Pools
 pub mod Ways
 pub mod Seams
 pub mod Writes
+pub mod Counting
+pub mod Opens
+pub mod Splices

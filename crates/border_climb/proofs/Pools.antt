@@ -182,11 +182,11 @@ sound-noted p q l s n =
       fingers = λ x h cov eq v. (let m = s.fingers x h (same.covered x cov) (finger x h eq) (live-same q p back h v) in
           (m.0, subst (λ (o : Option ℕ). IsMet q m.0 o h.cell) (sym (same.leafs x)) (met-same p q same m.0 (leaf_of p x) h.cell m.1)));
       old = record {
-        hints = λ i h eq. elim (n.each i h eq) [
-          | inl old ↦ subst (λ (t : ℕ). h.turn ≤ t) (sym (same.turns h.cell)) (s.old.hints i h old)
+        hints = λ i h eq fresh. elim (n.each i h eq) [
+          | inl old ↦ subst (λ (t : ℕ). h.turn ≤ t) (sym (same.turns h.cell)) (s.old.hints i h old fresh)
           | inr made ↦ (let t : turn_of q h.cell ≡ turn_of p h.cell = same.turns h.cell in let u : h.turn ≡ turn_of p h.cell = made.turn in omega arith)
         ];
-        fingers = λ x h eq. subst (λ (t : ℕ). h.turn ≤ t) (sym (same.turns h.cell)) (s.old.fingers x h (finger x h eq));
+        fingers = λ x h eq fresh. subst (λ (t : ℕ). h.turn ≤ t) (sym (same.turns h.cell)) (s.old.fingers x h (finger x h eq) fresh);
       };
     }
   where
@@ -214,9 +214,9 @@ sound-fingered p q place h s low eq d met turn = subst IsSound (sym eq) put
           ];
           old = record {
             hints = s.old.hints;
-            fingers = λ x k at. elim (entry-cases p.first p.fingers place (Some h) x k low at) [
+            fingers = λ x k at fresh. elim (entry-cases p.first p.fingers place (Some h) x k low at) [
               | inl here ↦ subst (λ (g : Hint). g.turn ≤ turn_of p g.cell) (one here.1) (omega arith)
-              | inr old ↦ s.old.fingers x k old.1
+              | inr old ↦ s.old.fingers x k old.1 fresh
             ];
           };
         }

@@ -112,11 +112,11 @@ seam-noted p q e s t first second m l above n =
         ];
         fingers = λ x h cov eq v. m.noted.fingers x h (same.covered x cov) (finger x h eq) (live-same q p back h v);
         old = record {
-          hints = λ i h eq. elim (n.each i h eq) [
-            | inl old ↦ subst (λ (k : ℕ). h.turn ≤ k) (sym (same.turns h.cell)) (m.noted.old.hints i h old)
+          hints = λ i h eq fresh. elim (n.each i h eq) [
+            | inl old ↦ subst (λ (k : ℕ). h.turn ≤ k) (sym (same.turns h.cell)) (m.noted.old.hints i h old fresh)
             | inr made ↦ (let a : turn_of q h.cell ≡ turn_of p h.cell = same.turns h.cell in let b : h.turn ≡ turn_of p h.cell = made.turn in omega arith)
           ];
-          fingers = λ x h eq. subst (λ (k : ℕ). h.turn ≤ k) (sym (same.turns h.cell)) (m.noted.old.fingers x h (finger x h eq));
+          fingers = λ x h eq fresh. subst (λ (k : ℕ). h.turn ≤ k) (sym (same.turns h.cell)) (m.noted.old.fingers x h (finger x h eq) fresh);
         };
       };
     }
@@ -141,8 +141,8 @@ noted-fewer p q same s n = record {
   fingers = λ x h cov eq v. (let live = before h v in let f = n.fingers x h (same.covered x cov) (sym (same.fingers x) ∙ eq) live.0 in
       (f.0, (f.1.0, sym live.1 ∙ f.1.1)));
   old = record {
-    hints = λ i h eq. subst (λ (k : ℕ). h.turn ≤ k) (sym (same.turns h.cell)) (n.old.hints i h (sym (same.hints i) ∙ eq));
-    fingers = λ x h eq. subst (λ (k : ℕ). h.turn ≤ k) (sym (same.turns h.cell)) (n.old.fingers x h (sym (same.fingers x) ∙ eq));
+    hints = λ i h eq fresh. subst (λ (k : ℕ). h.turn ≤ k) (sym (same.turns h.cell)) (n.old.hints i h (sym (same.hints i) ∙ eq) fresh);
+    fingers = λ x h eq fresh. subst (λ (k : ℕ). h.turn ≤ k) (sym (same.turns h.cell)) (n.old.fingers x h (sym (same.fingers x) ∙ eq) fresh);
   };
 }
   where

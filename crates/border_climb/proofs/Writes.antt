@@ -30,7 +30,7 @@ entry-other first xs id y j low other =
       | inr below ↦ rw below refl
     ]
 
-relinked-with : (p : CellPool) (id : ℕ) (up : Option ℕ) (c : Cell) → cell_at p id ≡ Some c → IsRelinked p (with_up p 0 (Some id) up) id up
+pub relinked-with : (p : CellPool) (id : ℕ) (up : Option ℕ) (c : Cell) → cell_at p id ≡ Some c → IsRelinked p (with_up p 0 (Some id) up) id up
 relinked-with p id up c is =
     let cov = used-covered p id c is in
     let y : Option Cell = Some (record { rank = option_map_or (λ b. b.rank) (cell_at p id) 0; up = up }) in

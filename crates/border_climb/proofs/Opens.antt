@@ -182,3 +182,11 @@ opened-with p a b first second id rank m =
           where
             cell-is : (c : Cell) → c.rank ≡ rank → c.up ≡ None → c ≡ record { rank = rank; up = None }
             cell-is c p q = ap (λ (r : ℕ). a_cell r c.up) p ∙ ap (λ (u : Option ℕ). a_cell rank u) q
+
+-- what was used still is after the number was taken and put above the first chain
+pub second-used : (p p1 p2 : CellPool) (id : ℕ) (cell : Cell) (a : ℕ) (first second up : Option ℕ) → IsPool p → IsCovered p id → IsCovered p a → IfSome first (IsUsed p) → IfSome second (IsUsed p) →
+    p1 ≡ with_taken p id cell → p2 ≡ with_up p1 a first up → IfSome second (IsUsed p2)
+second-used p p1 p2 id cell a first second up pool at cov one two eq eq' =
+    let t : IsTaken p p1 id cell = subst (λ (w : CellPool). IsTaken p w id cell) (sym eq) (taken-with p id cell pool.leafs at) in
+    let u = up-written p1 p2 a first up t.long (t.still_covered a cov) (taken-used p p1 id cell t first one) eq' in
+    up-used p1 p2 a first up u second (taken-used p p1 id cell t second two)

@@ -1,9 +1,9 @@
 -- The splice as a whole: from the climbs below the new edge's rank to the merged chains.
 use Rattle.std.proofs.Common.{◌≡◌, ◌≢◌, ℕ, suc, ◌+◌, ◌-◌, ◌<◌, ◌≤◌, ◌⊎◌, inl, inr, refl, sym, ◌∙◌, subst, ap, arith, List, [], ◌∷◌, set, get_or, length, nat_le, cond, min, ◌^◌, true, false, Bool}
-use Rattle.std.specs.Prelude.{Option, Some, None, IsSome, IfSome}
+use Rattle.std.specs.Prelude.{Option, Some, None, IsSome, IfSome, filter}
 use Rattle.std.proofs.lemmas.Bool.{cases_Bool, cases_eq, cases_order, false_from_ne_true, true≢false, le-leb, leb-true}
 use Rattle.std.proofs.lemmas.List.{length-set, get_or-set_same, get_or-set_other}
-use Rattle.hg_base.specs.Edges.{ListedEdge, EdgeList, IsIn, AreApart, Joined, joined, below, joins, chain, next}
+use Rattle.hg_base.specs.Edges.{ListedEdge, EdgeList, IsIn, AreApart, Joined, joined, below, joins, chain, first_edge, next}
 use Rattle.hg_base.specs.Placed.{placed}
 use Rattle.hg_base.specs.declared.graph.PlacedEdge.{PlacedEdge}
 use Rattle.hg_base.specs.Splice.{IsRedundant}
@@ -15,22 +15,26 @@ use Rattle.hg_base.proofs.Next.{IsIn-leaving, IsIn-leaving_kept}
 use Rattle.hg_base.proofs.Firsts.{IsBefore}
 use Rattle.hg_base.proofs.Merged.{next-row}
 use Rattle.hg_base.proofs.Meeting.{joined-by}
+use Rattle.hg_base.proofs.Drops.{joins-redundant, chain-redundant}
 use Rattle.hg_base.proofs.Ends.{IsBefore-to, next-is, next-quiet}
 use Rattle.node_region.specs.Pool.{CellPool, IsPool, count, IsCovered, IsUsed, entry, cell_at, leaf_of, turn_of, hint_of, finger_of, next_turn, with_taken}
 use Rattle.node_region.specs.declared.cell.Cell.{Cell}
 use Rattle.node_region.specs.declared.cell.Hint.{Hint}
 use Rattle.border_climb.specs.declared.given.Given.{Given}
+use Rattle.border_climb.specs.declared.given.Given.TheVariants as answers
+use Rattle.border_climb.specs.Stands.{IsMet}
 use Rattle.border_climb.specs.Linked.{HasRank, Points, IsCellOf, AreLinked, AreBetween}
 use Rattle.border_climb.specs.Notes.{IsLive, AreOld, IsSound, LeadsUp, AreNoted}
 use Rattle.border_climb.specs.Splicing.{IsLastCell, IsLast, IsOpened, IsSeam, IsMerged, IsLinkedList, IsSpliced, CanOpen, up_of}
-use Rattle.border_climb.specs.Climbs.{Ends, IsTopCell, IsTop, with_up, opened_pool}
+use Rattle.border_climb.specs.Climbs.{Ends, IsTopCell, IsTop, DiffersInNotes, with_up, opened_pool}
 use Rattle.border_climb.proofs.Linked.{cell-edge, next-behind, chain-met, linked-from}
 use Rattle.border_climb.proofs.Merging.{points-kept, cell-kept}
 use Rattle.border_climb.proofs.Opening.{IsOpening, opening, last-one}
-use Rattle.border_climb.proofs.Pools.{entry-cases, SameLinks, links-differs, rank-same, one-cell}
+use Rattle.border_climb.proofs.Pools.{entry-cases, SameLinks, links-differs, rank-same, met-same, one-cell}
+use Rattle.border_climb.proofs.Ways.{ends-same}
 use Rattle.border_climb.proofs.Seams.{noted-after, noted-sound, sound-noted_list}
 use Rattle.border_climb.proofs.Opens.{opened-with}
-use Rattle.border_climb.proofs.Writes.{entry-other}
+use Rattle.border_climb.proofs.Writes.{entry-other, seam-at}
 
 -- a link that leads to no cell of rank below r leads beyond r
 ends-after : (pool : CellPool) (s : EdgeList) (o : Option ℕ) (r : ℕ) (w : Option ListedEdge) → Points pool o w → Ends pool o r → ((f : ListedEdge) → w ≡ Some f → f.rank ≢ r) → IsBefore w r
@@ -280,3 +284,73 @@ opens-seam p q new e first second id m unlike can eq s l =
 -- after the merge all is sound
 pub merged-sound : (new : CellPool) (e : ListedEdge) (s : EdgeList) (answer : Given) → AreApart (e ∷ s) → IsMerged new e s answer → IsSound new
 merged-sound new e s answer h m = noted-sound new (e ∷ s) h m.links (noted-after new e s h m.links m.noted)
+
+links-on : (p q w : CellPool) → SameLinks p q → SameLinks q w → SameLinks p w
+links-on p q w a b = record {
+  cells = λ i. b.cells i ∙ a.cells i; leafs = λ x. b.leafs x ∙ a.leafs x; turns = λ i. b.turns i ∙ a.turns i;
+  covered = λ x c. a.covered x (b.covered x c); still_covered = λ x c. b.still_covered x (a.still_covered x c);
+}
+
+top-same : (p q : CellPool) → SameLinks p q → (x r : ℕ) (o : Option ℕ) → IsTop p x r o → IsTop q x r o
+top-same p q same x r None top = ends-same p q same (leaf_of q x) r (subst (λ (o : Option ℕ). Ends p o r) (sym (same.leafs x)) top)
+top-same p q same x r (Some i) top = record {
+  links = top.links;
+  met = subst (λ (o : Option ℕ). IsMet q top.links o i) (sym (same.leafs x)) (met-same p q same top.links (leaf_of p x) i top.met);
+  cell = top.cell; is = same.cells i ∙ top.is; low = top.low;
+  last = ends-same p q same top.cell.up r top.last;
+}
+
+-- the two climbs, one after the other
+pub climbed : (p q w : CellPool) (e : PlacedEdge) (first second : Option ℕ) → IsCovered p e.a → IsCovered p e.b → e.a ≢ e.b → DiffersInNotes p q → DiffersInNotes q w → IsSound w → IsTop p e.a e.rank first → IsTop q e.b e.rank second →
+    AreClimbed p w e.a e.b e.rank first second
+climbed p q w e first second a b two one other sound first_top second_top = record {
+  a_covered = a; b_covered = b; two = two;
+  same = links-on p q w (links-differs p q one) (links-differs q w other);
+  sound = sound; first_top = first_top; second_top = top-same q w (links-differs q w other) e.b e.rank second second_top;
+}
+
+-- a list stays linked where only notes differ
+pub list-same : (p q : CellPool) → SameLinks p q → (s : EdgeList) (r : ℕ) → IsLinkedList p s r → IsLinkedList q s r
+list-same p q same s r l = record {
+  between = record {
+    first_ends = λ e i. same.still_covered e.u (l.between.first_ends e i);
+    second_ends = λ e i. same.still_covered e.v (l.between.second_ends e i);
+    two_ends = l.between.two_ends; apart = l.between.apart; small = l.between.small;
+  };
+  links = linked-same p q same s l.links;
+  fresh = l.fresh;
+}
+
+-- the seam that was opened
+pub opened-seam : (p q new : CellPool) (e : PlacedEdge) (first second : Option ℕ) (last : ℕ) (third fourth : Option ℕ) → AreClimbed p q e.a e.b e.rank first second → ((i : ℕ) → first ≡ Some i → second ≡ Some i → ⊥) →
+    CanOpen q e.a e.b first second last → new ≡ opened_pool q e.a e.b first second last e.rank → third ≡ up_of q e.a first → fourth ≡ up_of q e.b second →
+    (f : ListedEdge) (s : EdgeList) → placed f ≡ e → IsLinkedList p s e.rank → IsSeam new f s last third fourth
+opened-seam p q new e first second last third fourth m unlike can eq at at' f s is l =
+    (subst (λ (g : PlacedEdge). AreClimbed p q g.a g.b g.rank first second → CanOpen q g.a g.b first second last → new ≡ opened_pool q g.a g.b first second last g.rank → third ≡ up_of q g.a first → fourth ≡ up_of q g.b second → IsLinkedList p s g.rank →
+        IsSeam new f s last third fourth) is
+    (λ m' can' eq' t t' l'. seam-at new f s last (up_of q f.u first) (up_of q f.v second) third fourth (opens-seam p q new f first second last m' unlike can' eq' s l') (sym t) (sym t'))) m can eq at at' l
+
+-- a redundant edge changes no link
+redundant-links : (p : CellPool) (e : ListedEdge) (s : EdgeList) → AreApart (e ∷ s) → IsRedundant e s → AreLinked p s → AreLinked p (e ∷ s)
+redundant-links p e s h r l = record {
+  leafs = λ x cov. subst (λ (c : EdgeList). Points p (leaf_of p x) (first_edge (filter (λ f. nat_le 0 f.rank) c))) (sym (chain-redundant e s h r x)) (l.leafs x cov);
+  cells = λ i c is. (let q = l.cells i c is in record {
+    edge = q.edge;
+    joins = subst (λ (t : EdgeList). IsIn q.edge t) (sym (joins-redundant e s h r)) q.joins;
+    rank = q.rank;
+    up = subst (λ (t : EdgeList). Points p c.up (first_edge (filter (λ f. nat_le (suc q.edge.rank) f.rank) t))) (sym (chain-redundant e s h r q.edge.u)) q.up;
+  });
+  alone = l.alone;
+}
+
+-- both climbs end at one cell
+pub spliced-one : (p q : CellPool) (e : PlacedEdge) (first second : Option ℕ) → AreClimbed p q e.a e.b e.rank first second → (i : ℕ) → first ≡ Some i → second ≡ Some i →
+    (f : ListedEdge) (s : EdgeList) → placed f ≡ e → IsLinkedList p s e.rank → IsSpliced q f s answers.Redundant
+spliced-one p q e first second m i one two f s is l =
+    (subst (λ (g : PlacedEdge). AreClimbed p q g.a g.b g.rank first second → IsLinkedList p s g.rank → IsSpliced q f s answers.Redundant) is
+    (λ m' l'. let r = tells-one p q f first second m' i one two s l' in
+      record { links = redundant-links q f s (fresh-apart f s l'.between.apart l'.fresh) r (linked-same p q m'.same s l'.links); told = r })) m l
+
+-- what a merge leaves
+pub spliced-merged : (new : CellPool) (f : ListedEdge) (s : EdgeList) (answer : Given) → IsMerged new f s answer → IsSpliced new f s answer
+spliced-merged new f s answer m = record { links = m.links; told = m.told }

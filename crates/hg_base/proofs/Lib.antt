@@ -38,3 +38,4 @@ pub mod KeyLabels
 pub mod Saliencies
 pub mod KeyClasses
 pub mod CountMore
+pub mod Ends

@@ -12,6 +12,7 @@ pub mod Components
 pub mod Nodes
 pub mod Paths
 pub mod FrontTree
+pub mod TreeNodes
 pub mod FrontOnce
 pub mod Meeting
 pub mod SideBySide

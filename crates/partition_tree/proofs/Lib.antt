@@ -2,3 +2,4 @@ pub mod NodeLemmas
 pub mod PathLemmas
 pub mod ClimbLemmas
 pub mod ChildLemmas
+pub mod TreeLemmas

@@ -3,6 +3,7 @@ pub mod Forest
 pub mod Paths
 pub mod Climbs
 pub mod Children
+pub mod Levels
 pub mod Joining
 pub mod ForestFields
 pub mod TreeFields

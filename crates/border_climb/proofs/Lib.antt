@@ -1,2 +1,4 @@
-pub mod SlotLemmas
-pub mod ViewLemmas
+pub mod Linked
+pub mod Merging
+pub mod Closing
+pub mod Opening

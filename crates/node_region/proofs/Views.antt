@@ -1,0 +1,126 @@
+-- What a region is seen as after the entry of a number or of a place was written.
+use Rattle.std.proofs.Common.{◌≡◌, ◌≢◌, ℕ, zero, suc, ◌+◌, ◌-◌, ◌<◌, ◌≤◌, ◌⊎◌, inl, inr, List, [], ◌∷◌, ◌++◌, length, get_or, set, map, drop, Option, Some, None, IsSome, nat_le, refl, sym, ap, ◌∙◌, subst, add-one, arith}
+use Rattle.std.proofs.lemmas.List.{length-map, get_or-map, length-set}
+use Rattle.std.proofs.lemmas.Bool.{cases_eq}
+use Rattle.hg_base.specs.Edges.{IsIn}
+use Rattle.node_region.specs.declared.cell.Cell.{Cell}
+use Rattle.node_region.specs.declared.cell.Hint.{Hint}
+use Rattle.node_region.specs.declared.chunk.State.{State}
+use Rattle.node_region.specs.declared.chunk.State.TheVariants.{Used, Free}
+use Rattle.node_region.specs.declared.chunk.Slot.{Slot}
+use Rattle.node_region.specs.declared.chunk.Place.{Place}
+use Rattle.node_region.specs.declared.chunk.FreeList.{FreeList}
+use Rattle.node_region.specs.declared.tables.Tables.{Tables}
+use Rattle.node_region.specs.declared.region.Region.TheInside.{Inside}
+use Rattle.node_region.specs.Pool.{CellPool, IsPool, IsCovered, IsUsed, AreDifferent, cell_at, turn_of, hint_of, leaf_of, finger_of, with_cell, with_taken, with_given_back, with_leaf, with_hint, with_finger, next_turn}
+use Rattle.node_region.specs.Tables.{slots_of, places_of, cells_in, links_in, cell_of, link_of, next_of, thread, told_after, free_in, IsTail}
+use Rattle.node_region.specs.Kept.{KeepsTables}
+use Rattle.node_region.specs.RegionFields.{pool_of, IsRegion}
+use Rattle.node_region.proofs.Threads.{thread-kept, told-same, thread-longer}
+use Rattle.node_region.proofs.Entries.{entry-read, next-set_same}
+use Rattle.node_region.proofs.Slots.{IsEntry, field-written, field-kept, others-tell_same, free-kept, tail-kept}
+use Rattle.node_region.proofs.Pools.{pool-same}
+use Rattle.node_region.proofs.PoolLaws.{used-covered, used-not_free, with_cell-pool, with_taken-pool, with_given_back-pool, with_leaf-pool, with_hint-pool, with_finger-pool}
+
+-- a number of the range, as the tables count them
+pub covered-within : (r : Inside) (id : ℕ) → IsCovered (pool_of r) id → (r.tables.first ≤ id) × (id < r.tables.first + r.tables.count)
+covered-within r id at =
+    let long = length-map (slots_of r.tables.chunks.items) (λ s. cell_of s.state) in
+    (at.0, omega (arith, at.1, long, r.tables.counted))
+
+-- what stands at a number
+pub cell-read : (r : Inside) (n id : ℕ) (s : Slot) → IsEntry r.tables.first (slots_of r.tables.chunks.items) n id s → cell_at (pool_of r) id ≡ cell_of s.state
+cell-read r n id s e = entry-read (λ x. cell_of x.state) r.tables.first (slots_of r.tables.chunks.items) n id s e.number e.within e.read
+
+pub hint-read : (r : Inside) (n id : ℕ) (s : Slot) → IsEntry r.tables.first (slots_of r.tables.chunks.items) n id s → hint_of (pool_of r) id ≡ s.hint
+hint-read r n id s e = entry-read (λ x. x.hint) r.tables.first (slots_of r.tables.chunks.items) n id s e.number e.within e.read
+
+turn-is : (first : ℕ) (turns : List ℕ) (id : ℕ) → first ≤ id → (if nat_le first id then get_or turns (id - first) 0 else 0) ≡ get_or turns (id - first) 0
+turn-is first turns id low = grind arith
+
+pub turn-read : (r : Inside) (n id : ℕ) (s : Slot) → IsEntry r.tables.first (slots_of r.tables.chunks.items) n id s → turn_of (pool_of r) id ≡ s.turn
+turn-read r n id s e =
+    let place : id - r.tables.first ≡ n = omega (arith, e.number) in
+    turn-is r.tables.first (map (λ x. x.turn) (slots_of r.tables.chunks.items)) id (omega (arith, e.number))
+    ∙ rw place (get_or-map (λ (x : Slot). x.turn) (slots_of r.tables.chunks.items) n s 0 e.within ∙ ap (λ (x : Slot). x.turn) (sym e.read))
+
+pub leaf-read : (r : Inside) (n place : ℕ) (p : Place) → IsEntry r.tables.first (places_of r.tables.chunks.items) n place p → leaf_of (pool_of r) place ≡ p.leaf
+leaf-read r n place p e = entry-read (λ x. x.leaf) r.tables.first (places_of r.tables.chunks.items) n place p e.number e.within e.read
+
+pub finger-read : (r : Inside) (n place : ℕ) (p : Place) → IsEntry r.tables.first (places_of r.tables.chunks.items) n place p → finger_of (pool_of r) place ≡ p.finger
+finger-read r n place p e = entry-read (λ x. x.finger) r.tables.first (places_of r.tables.chunks.items) n place p e.number e.within e.read
+
+-- the entry of a number was written
+pub record SlotWritten (r : Inside) (t : Tables) (n id : ℕ) (s y : Slot) : Type 0 where
+  pub entry : IsEntry r.tables.first (slots_of r.tables.chunks.items) n id s
+  pub kept : KeepsTables r.tables t
+  pub slots : slots_of t.chunks.items ≡ set (slots_of r.tables.chunks.items) n y
+  pub places : places_of t.chunks.items ≡ places_of r.tables.chunks.items
+
+-- the entry of a place was written
+pub record PlaceWritten (r : Inside) (t : Tables) (n place : ℕ) (p y : Place) : Type 0 where
+  pub entry : IsEntry r.tables.first (places_of r.tables.chunks.items) n place p
+  pub kept : KeepsTables r.tables t
+  pub places : places_of t.chunks.items ≡ set (places_of r.tables.chunks.items) n y
+  pub slots : slots_of t.chunks.items ≡ slots_of r.tables.chunks.items
+
+-- the region with other tables and another list of free numbers
+abbrev pub region_with : Inside → FreeList → Tables → Inside
+region_with r free t = record { room = r.room; free = free; tables = t }
+
+-- the region is seen as that pool, and keeps to what every region keeps to
+abbrev pub IsSeenAs : Inside → CellPool → Type 0
+IsSeenAs r q = (pool_of r ≡ q) × IsRegion r
+
+slot-seen : (r : Inside) → IsRegion r → (t : Tables) (n id : ℕ) (s y : Slot) → SlotWritten r t n id s y → (f : FreeList)
+    → (cells : List (Option Cell)) (free turns : List ℕ) (hints : List (Option Hint))
+    → cells_in (set (slots_of r.tables.chunks.items) n y) ≡ cells → free_in r.tables.first (set (slots_of r.tables.chunks.items) n y) f ≡ free
+    → map (λ x. x.turn) (set (slots_of r.tables.chunks.items) n y) ≡ turns → map (λ x. x.hint) (set (slots_of r.tables.chunks.items) n y) ≡ hints
+    → IsPool (record (pool_of r) { cells = cells; free = free; turns = turns; hints = hints }) → IsTail r.tables.first (set (slots_of r.tables.chunks.items) n y) f
+    → IsSeenAs (region_with r f t) (record (pool_of r) { cells = cells; free = free; turns = turns; hints = hints })
+slot-seen r h t n id s y w f cells free turns hints as_cells as_free as_turns as_hints pool tail =
+    let seen : pool_of (region_with r f t) ≡ record (pool_of r) { cells = cells; free = free; turns = turns; hints = hints } = pool-same _ _ (record {
+      first = w.kept.first;
+      cells = ap cells_in w.slots ∙ as_cells;
+      leafs = ap (λ xs. map (λ p. p.leaf) xs) w.places;
+      free = ap (λ k. free_in k (slots_of t.chunks.items) f) w.kept.first ∙ ap (λ xs. free_in r.tables.first xs f) w.slots ∙ as_free;
+      chunks = w.kept.chunks;
+      room = refl;
+      turns = ap (λ xs. map (λ x. x.turn) xs) w.slots ∙ as_turns;
+      hints = ap (λ xs. map (λ x. x.hint) xs) w.slots ∙ as_hints;
+      fingers = ap (λ xs. map (λ p. p.finger) xs) w.places;
+    }) in
+    (seen, record { pool = subst (λ q. IsPool q) (sym seen) pool; tail = rw (w.kept.first, w.slots) tail; capacity = omega (arith, h.capacity, w.kept.capacity) })
+
+-- the free numbers are others than one that has a cell
+free-apart : (r : Inside) → IsRegion r → (id : ℕ) → IsUsed (pool_of r) id → (i : ℕ) → IsIn i (pool_of r).free → (r.tables.first ≤ i) × (i ≢ id)
+free-apart r h id used i is = ((h.pool.free_is_covered i is).0, λ same. used-not_free (pool_of r) h.pool id used (subst (λ (n : ℕ). IsIn n (pool_of r).free) same is))
+
+-- a number has another cell in place of its own
+pub cell-seen : (r : Inside) → IsRegion r → (t : Tables) (n id : ℕ) (s y : Slot) → SlotWritten r t n id s y → (c : Cell) → IsUsed (pool_of r) id
+    → y.state ≡ Used c → y.turn ≡ s.turn → y.hint ≡ s.hint → IsSeenAs (region_with r r.free t) (with_cell (pool_of r) id (Some c))
+cell-seen r h t n id s y w c used state turn hint =
+    let first = r.tables.first in
+    let slots = slots_of r.tables.chunks.items in
+    slot-seen r h t n id s y w r.free _ _ _ _
+        (field-written (λ x. cell_of x.state) first slots n id s y w.entry ∙ ap (λ o. set (cells_in slots) (id - first) (cell_of o)) state)
+        (free-kept first slots n id s y w.entry r.free (free-apart r h id used))
+        (field-kept (λ x. x.turn) first slots n id s y w.entry turn)
+        (field-kept (λ x. x.hint) first slots n id s y w.entry hint)
+        (with_cell-pool (pool_of r) h.pool id used c)
+        (tail-kept first slots n id s y w.entry r.free (free-apart r h id used) h.tail)
+
+-- something else is noted at a number
+pub hint-seen : (r : Inside) → IsRegion r → (t : Tables) (n id : ℕ) (s y : Slot) → SlotWritten r t n id s y → (hint : Option Hint)
+    → y.state ≡ s.state → y.turn ≡ s.turn → y.hint ≡ hint → IsSeenAs (region_with r r.free t) (with_hint (pool_of r) id hint)
+hint-seen r h t n id s y w hint state turn noted =
+    let first = r.tables.first in
+    let slots = slots_of r.tables.chunks.items in
+    let links = field-kept (λ x. link_of x.state) first slots n id s y w.entry (ap link_of state) in
+    slot-seen r h t n id s y w r.free _ _ _ _
+        (field-kept (λ x. cell_of x.state) first slots n id s y w.entry (ap cell_of state))
+        (ap (λ l. thread first l r.free.count r.free.head) links)
+        (field-kept (λ x. x.turn) first slots n id s y w.entry turn)
+        (field-written (λ x. x.hint) first slots n id s y w.entry ∙ ap (λ o. set (map (λ x. x.hint) slots) (id - first) o) noted)
+        (with_hint-pool (pool_of r) h.pool id hint)
+        (λ k more. ap (λ l. told_after first l k r.free.head) links ∙ h.tail k more)

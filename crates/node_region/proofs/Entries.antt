@@ -60,3 +60,11 @@ entry-append_right first xs ys id next behind low =
     let place : id - first - length xs ≡ id - next = omega arith in
     entry-is first (xs ++ ys) id (omega arith) ∙ get_or-append_right xs ys (length xs) (id - first) None refl (omega arith)
     ∙ ap (λ k. get_or ys k None) place ∙ sym (entry-is next ys id low)
+
+-- nothing is there for a number outside the range
+pub entry-outside : {X : Type 0} (first : ℕ) (xs : List (Option X)) (id : ℕ) → (first ≤ id → id < first + length xs → ⊥) → entry first xs id ≡ None
+entry-outside first xs id out = nothing-there (entry first xs id) (λ some. let at = entry-covered first xs id some in out at.0 at.1)
+  where
+    nothing-there : {X : Type 0} (o : Option X) → (IsSome o → ⊥) → o ≡ None
+    nothing-there None none = refl
+    nothing-there (Some x) none = absurd (none refl)

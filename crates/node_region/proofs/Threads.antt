@@ -105,3 +105,8 @@ rising-in a (suc n) i low high = elim (cases_eq a i) [
 pub rising-different : (a n : ℕ) → AreDifferent (range_with_len a n)
 rising-different a zero = tt
 rising-different a (suc n) = (λ is. let low = (rising-from (a + 1) n a is).0 in absurd (omega (arith, low)), rising-different (a + 1) n)
+
+-- the first number of a list, and the others
+pub thread-first : (first : ℕ) (l : List ℕ) (k h : ℕ) → k ≢ 0 → thread first l k h ≡ h ∷ thread first l (k - 1) (next_of first l h)
+thread-first first l zero h some = absurd (some refl)
+thread-first first l (suc k) h some = let e : suc k - 1 ≡ k = omega arith in rw e refl

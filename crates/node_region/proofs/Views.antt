@@ -1,5 +1,5 @@
 -- What a region is seen as after the entry of a number or of a place was written.
-use Rattle.std.proofs.Common.{◌≡◌, ◌≢◌, ℕ, zero, suc, ◌+◌, ◌-◌, ◌<◌, ◌≤◌, ◌⊎◌, inl, inr, List, [], ◌∷◌, ◌++◌, length, get_or, set, map, drop, Option, Some, None, IsSome, nat_le, refl, sym, ap, ◌∙◌, subst, add-one, arith}
+use Rattle.std.proofs.Common.{◌≡◌, ◌≢◌, ℕ, zero, suc, ◌+◌, ◌-◌, ◌<◌, ◌≤◌, ◌⊎◌, inl, inr, List, [], ◌∷◌, ◌++◌, length, get_or, set, map, drop, Option, Some, None, IsSome, nat_le, nat_eq, ◌==◌, if◌then◌else◌, Bool, true, false, refl, sym, ap, ◌∙◌, subst, add-one, arith}
 use Rattle.std.proofs.lemmas.List.{length-map, get_or-map, length-set}
 use Rattle.std.proofs.lemmas.Bool.{cases_eq}
 use Rattle.hg_base.specs.Edges.{IsIn}
@@ -12,7 +12,7 @@ use Rattle.node_region.specs.declared.chunk.Place.{Place}
 use Rattle.node_region.specs.declared.chunk.FreeList.{FreeList}
 use Rattle.node_region.specs.declared.tables.Tables.{Tables}
 use Rattle.node_region.specs.declared.region.Region.TheInside.{Inside}
-use Rattle.node_region.specs.Pool.{CellPool, IsPool, IsCovered, IsUsed, AreDifferent, cell_at, turn_of, hint_of, leaf_of, finger_of, with_cell, with_taken, with_given_back, with_leaf, with_hint, with_finger, next_turn}
+use Rattle.node_region.specs.Pool.{CellPool, IsPool, IsCovered, IsUsed, AreDifferent, cell_at, turn_of, hint_of, leaf_of, finger_of, hinted_cell, with_cell, with_taken, with_given_back, with_leaf, with_hint, with_finger, next_turn}
 use Rattle.node_region.specs.Tables.{slots_of, places_of, cells_in, links_in, cell_of, link_of, next_of, thread, told_after, free_in, IsTail}
 use Rattle.node_region.specs.Kept.{KeepsTables}
 use Rattle.node_region.specs.RegionFields.{pool_of, IsRegion}
@@ -72,7 +72,7 @@ region_with r free t = record { room = r.room; free = free; tables = t }
 abbrev pub IsSeenAs : Inside → CellPool → Type 0
 IsSeenAs r q = (pool_of r ≡ q) × IsRegion r
 
-slot-seen : (r : Inside) → IsRegion r → (t : Tables) (n id : ℕ) (s y : Slot) → SlotWritten r t n id s y → (f : FreeList)
+pub slot-seen : (r : Inside) → IsRegion r → (t : Tables) (n id : ℕ) (s y : Slot) → SlotWritten r t n id s y → (f : FreeList)
     → (cells : List (Option Cell)) (free turns : List ℕ) (hints : List (Option Hint))
     → cells_in (set (slots_of r.tables.chunks.items) n y) ≡ cells → free_in r.tables.first (set (slots_of r.tables.chunks.items) n y) f ≡ free
     → map (λ x. x.turn) (set (slots_of r.tables.chunks.items) n y) ≡ turns → map (λ x. x.hint) (set (slots_of r.tables.chunks.items) n y) ≡ hints
@@ -93,7 +93,7 @@ slot-seen r h t n id s y w f cells free turns hints as_cells as_free as_turns as
     (seen, record { pool = subst (λ q. IsPool q) (sym seen) pool; tail = rw (w.kept.first, w.slots) tail; capacity = omega (arith, h.capacity, w.kept.capacity) })
 
 -- the free numbers are others than one that has a cell
-free-apart : (r : Inside) → IsRegion r → (id : ℕ) → IsUsed (pool_of r) id → (i : ℕ) → IsIn i (pool_of r).free → (r.tables.first ≤ i) × (i ≢ id)
+pub free-apart : (r : Inside) → IsRegion r → (id : ℕ) → IsUsed (pool_of r) id → (i : ℕ) → IsIn i (pool_of r).free → (r.tables.first ≤ i) × (i ≢ id)
 free-apart r h id used i is = ((h.pool.free_is_covered i is).0, λ same. used-not_free (pool_of r) h.pool id used (subst (λ (n : ℕ). IsIn n (pool_of r).free) same is))
 
 -- a number has another cell in place of its own
@@ -124,3 +124,57 @@ hint-seen r h t n id s y w hint state turn noted =
         (field-written (λ x. x.hint) first slots n id s y w.entry ∙ ap (λ o. set (map (λ x. x.hint) slots) (id - first) o) noted)
         (with_hint-pool (pool_of r) h.pool id hint)
         (λ k more. ap (λ l. told_after first l k r.free.head) links ∙ h.tail k more)
+
+place-seen : (r : Inside) → IsRegion r → (t : Tables) (n place : ℕ) (p y : Place) → PlaceWritten r t n place p y → (leafs : List (Option ℕ)) (fingers : List (Option Hint))
+    → map (λ x. x.leaf) (set (places_of r.tables.chunks.items) n y) ≡ leafs → map (λ x. x.finger) (set (places_of r.tables.chunks.items) n y) ≡ fingers
+    → IsPool (record (pool_of r) { leafs = leafs; fingers = fingers })
+    → IsSeenAs (region_with r r.free t) (record (pool_of r) { leafs = leafs; fingers = fingers })
+place-seen r h t n place p y w leafs fingers as_leafs as_fingers pool =
+    let seen : pool_of (region_with r r.free t) ≡ record (pool_of r) { leafs = leafs; fingers = fingers } = pool-same _ _ (record {
+      first = w.kept.first;
+      cells = ap cells_in w.slots;
+      leafs = ap (λ xs. map (λ x. x.leaf) xs) w.places ∙ as_leafs;
+      free = ap (λ k. free_in k (slots_of t.chunks.items) r.free) w.kept.first ∙ ap (λ xs. free_in r.tables.first xs r.free) w.slots;
+      chunks = w.kept.chunks;
+      room = refl;
+      turns = ap (λ xs. map (λ x. x.turn) xs) w.slots;
+      hints = ap (λ xs. map (λ x. x.hint) xs) w.slots;
+      fingers = ap (λ xs. map (λ x. x.finger) xs) w.places ∙ as_fingers;
+    }) in
+    (seen, record { pool = subst (λ q. IsPool q) (sym seen) pool; tail = rw (w.kept.first, w.slots) h.tail; capacity = omega (arith, h.capacity, w.kept.capacity) })
+
+-- another number stands above a place
+pub leaf-seen : (r : Inside) → IsRegion r → (t : Tables) (n place : ℕ) (p y : Place) → PlaceWritten r t n place p y → (up : Option ℕ)
+    → y.leaf ≡ up → y.finger ≡ p.finger → IsSeenAs (region_with r r.free t) (with_leaf (pool_of r) place up)
+leaf-seen r h t n place p y w up leaf finger =
+    let first = r.tables.first in
+    let places = places_of r.tables.chunks.items in
+    place-seen r h t n place p y w _ _
+        (field-written (λ x. x.leaf) first places n place p y w.entry ∙ ap (λ o. set (map (λ x. x.leaf) places) (place - first) o) leaf)
+        (field-kept (λ x. x.finger) first places n place p y w.entry finger)
+        (with_leaf-pool (pool_of r) h.pool place up)
+
+-- something else is noted at a place
+pub finger-seen : (r : Inside) → IsRegion r → (t : Tables) (n place : ℕ) (p y : Place) → PlaceWritten r t n place p y → (noted : Option Hint)
+    → y.leaf ≡ p.leaf → y.finger ≡ noted → IsSeenAs (region_with r r.free t) (with_finger (pool_of r) place noted)
+finger-seen r h t n place p y w noted leaf finger =
+    let first = r.tables.first in
+    let places = places_of r.tables.chunks.items in
+    place-seen r h t n place p y w _ _
+        (field-kept (λ x. x.leaf) first places n place p y w.entry leaf)
+        (field-written (λ x. x.finger) first places n place p y w.entry ∙ ap (λ o. set (map (λ x. x.finger) places) (place - first) o) finger)
+        (with_finger-pool (pool_of r) h.pool place noted)
+
+-- a hint of a number without a cell, or of another turn, means nothing
+pub hinted-none : (p : CellPool) (hint : Hint) → cell_at p hint.cell ≡ None → hinted_cell p hint ≡ None
+hinted-none p hint none = rw none (either (turn_of p hint.cell == hint.turn) None)
+  where
+    either : (b : Bool) (o : Option Cell) → (if b then o else o) ≡ o
+    either true o = refl
+    either false o = refl
+
+pub hinted-other : (p : CellPool) (hint : Hint) → turn_of p hint.cell ≢ hint.turn → hinted_cell p hint ≡ None
+hinted-other p hint other = grind arith
+
+pub hinted-same : (p : CellPool) (hint : Hint) → turn_of p hint.cell ≡ hint.turn → hinted_cell p hint ≡ cell_at p hint.cell
+hinted-same p hint same = grind arith

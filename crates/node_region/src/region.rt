@@ -1,4 +1,4 @@
-ghost use Rattle.std.specs.Prelude.{◌≡◌, ℕ, ◌+◌, ◌≤◌, ◌∷◌, [], length, Some, IfOk, IfSome, IfNone};
+ghost use Rattle.std.specs.Prelude.{◌≡◌, ◌≢◌, ℕ, ◌+◌, ◌<◌, ◌≤◌, ◌∷◌, [], length, Some, IfOk, IfSome, IfNone};
 ghost use Rattle.node_region.specs.Pool.{IsCovered, IsUsed, IsPool, IsNextTo, count, cell_at, leaf_of, turn_of, hint_of, finger_of, hinted_cell, fresh_pool, with_cell, with_taken, with_given_back, with_leaf, with_hint, with_finger, appended};
 
 use crate::cell::{Cell, Hint};
@@ -100,11 +100,7 @@ impl Region {
         let slot = self.tables.slot(at);
         let state = State::Free(self.free.head);
         self.tables.set_slot(at, Slot { state, ..slot });
-        if self.free.count == 0 {
-            self.free.tail = id;
-        }
-        self.free.head = id;
-        self.free.count += 1;
+        self.free = put_in_front(self.free, id);
     }
 
     /// The cell of a number.
@@ -254,5 +250,21 @@ impl Region {
         ensures { result ≡ length self.now.free }
     {
         self.free.count
+    }
+}
+
+// A list of free numbers with one more in front.
+fn put_in_front(free: FreeList, id: u32) -> FreeList
+    requires { free.count < 1048577 }
+    ensures count { result.count ≡ free.count + 1 }
+    ensures head { result.head ≡ id }
+    ensures only { free.count ≡ 0 → result.tail ≡ id }
+    ensures tail { free.count ≢ 0 → result.tail ≡ free.tail }
+{
+    let tail = if free.count == 0 { id } else { free.tail };
+    FreeList {
+        count: free.count + 1,
+        head: id,
+        tail,
     }
 }

@@ -1,4 +1,4 @@
-ghost use Rattle.std.specs.Prelude.{◌≡◌, ℕ, ◌+◌, ◌-◌, ◌<◌, ◌≤◌, ◌++◌, length, get_or, set, replicate, map, vec_capacity, IfOk};
+ghost use Rattle.std.specs.Prelude.{◌≡◌, ℕ, ◌+◌, ◌-◌, ◌<◌, ◌≤◌, ◌++◌, length, get_or, set, replicate, map, vec_capacity, IfOk, IsTrue, ◌↔◌};
 ghost use Rattle.node_region.specs.Tables.{slots_of, places_of, start_of, number_at, IsAt, AreInRow, AreInRow-prop, fresh_slots, fresh_place};
 
 use crate::chunk::{At, Chunk, FreeList, Place, Slot, State};
@@ -55,7 +55,9 @@ impl Tables {
     }
 
     // Whether the number is one of these.
-    pub(crate) fn covers(&self, id: u32) -> bool {
+    pub(crate) fn covers(&self, id: u32) -> bool
+        ensures { IsTrue result ↔ ((self.now.first ≤ id) × (id < self.now.first + self.now.count)) }
+    {
         self.first <= id && id - self.first < self.count
     }
 

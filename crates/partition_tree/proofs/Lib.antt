@@ -3,3 +3,7 @@ pub mod PathLemmas
 pub mod ClimbLemmas
 pub mod ChildLemmas
 pub mod TreeLemmas
+pub mod CellLemmas
+pub mod NumberingLaws
+pub mod ListLemmas
+pub mod ListTree

@@ -4,7 +4,7 @@ pub mod Paths
 pub mod Climbs
 pub mod Children
 pub mod Levels
-pub mod Joining
+pub mod Numbering
 pub mod ForestFields
 pub mod TreeFields
 pub mod Report

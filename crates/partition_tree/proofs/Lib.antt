@@ -7,3 +7,4 @@ pub mod CellLemmas
 pub mod NumberingLaws
 pub mod ListLemmas
 pub mod ListTree
+pub mod TestLemmas

@@ -4,11 +4,13 @@ use Rattle.std.specs.Prelude.{All, Option, Some, None, slice_get}
 use Rattle.std.specs.Option.{option_map_or}
 use Rattle.std.specs.List.{range_with_len}
 use Rattle.std.proofs.lemmas.Bool.{cases_order}
-use Rattle.std.proofs.lemmas.Option.{slice_get_cases}
+use Rattle.std.proofs.lemmas.Option.{slice_get_cases, slice_get-get_or}
 use Rattle.std.proofs.lemmas.List.Elements.{All-get_or}
 use Rattle.std.proofs.lemmas.List.FromFn.{length-map-range_with_len}
 use Rattle.hg_base.specs.Edges.{ListedEdge, EdgeList, IsIn, IsSameSet, AreApart, AreWithin}
 use Rattle.hg_base.specs.Saliency.{AreByWeight}
+use Rattle.hg_base.specs.Placed.{placed}
+use Rattle.border_climb.specs.Stands.{IsNewRank}
 use Rattle.partition_tree.specs.declared.list.Ranked.{Ranked}
 use Rattle.partition_tree.specs.Ranked.{JoinsTwo, IsRankedList, edge_at, edges_of, first_edges}
 
@@ -128,3 +130,15 @@ edges-by_weight n list h e f i j lt =
     same_default [] k x y low eq = absurd (omega arith)
     same_default (z ∷ zs) zero x y low eq = eq
     same_default (z ∷ zs) (suc k) x y low eq = same_default zs k x y (omega arith) eq
+
+-- the rank of the next edge is new
+pub first-new : (list : List Ranked) (k : ℕ) → IsNewRank k (first_edges list k)
+first-new list k e i r =
+    let p = first-placed list k e i in
+    let q : p.at ≡ e.rank = ap (λ (x : ListedEdge). x.rank) p.is in
+    let l : p.at < k = p.low in
+    omega arith
+
+-- the edge at a place, as a part is given it
+pub placed-read : (list : List Ranked) (k : ℕ) (d : Ranked) → k < length list → placed (edge_at list k) ≡ record { rank = k; a = (get_or list k d).u; b = (get_or list k d).v }
+placed-read list k d lt = rw (slice_get-get_or list k d lt) refl

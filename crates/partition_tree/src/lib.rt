@@ -15,7 +15,5 @@ pub use list::Ranked;
 pub use report::write_tree;
 pub use tree::Tree;
 
-
-
 #[cfg(test)]
 mod tests;

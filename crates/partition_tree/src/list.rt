@@ -59,7 +59,8 @@ fn numbered(alloc: Global, part: &Part, list: &[Ranked]) -> Result<Tree, AllocEr
     requires first { part.now.region.first ≡ 0 }
     requires list { IsRankedList (count part.now.region) list.now }
     requires stands { Stands part.now (first_edges list.now (length list.now)) }
-    ensures { IfOk result (λ tree. tree ≡ tree_of (count part.now.region) (edges_of list.now)) }
+    ensures tree { IfOk result (λ tree. tree ≡ tree_of (count part.now.region) (edges_of list.now)) }
+    ensures fronts { IfOk result (λ tree. IsFrontTree tree (count part.now.region) (edges_of list.now)) }
 {
     let n = part.count();
     let numbering = Numbering::of(alloc, part, list.len())?;

@@ -12,6 +12,8 @@ pub mod Components
 pub mod Nodes
 pub mod Paths
 pub mod FrontTree
+pub mod TreeNodes
+pub mod BelowRanks
 pub mod FrontOnce
 pub mod Meeting
 pub mod SideBySide

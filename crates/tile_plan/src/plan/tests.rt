@@ -5,27 +5,30 @@ use crate::fault::PlanFault;
 use crate::site::Side;
 use edge_order::Order;
 use hg_base::{Edge, Graph, PlacedEdge, Room};
-use std::alloc::Global;
+use std::alloc::{AllocError, Global};
 use std::process::Abort;
 use std::test::Fail;
 use std::thread::Threads;
 
-// The graph of a picture of equal samples, 4 pixels wide and 2 high: each pixel's edge to the right, then down.
-fn picture(rt: &impl Abort, alloc: Global) -> Result<Graph, Fail> {
+// The edges of a picture of equal samples, 4 pixels wide and 2 high: each pixel's edge to the right, then down.
+const PICTURE: [(u32, u32); 10] = [
+    (0, 1),
+    (0, 4),
+    (1, 2),
+    (1, 5),
+    (2, 3),
+    (2, 6),
+    (3, 7),
+    (4, 5),
+    (5, 6),
+    (6, 7),
+];
+
+// The graph of 8 vertices with these edges of weight 0.
+fn graph_of(rt: &impl Abort, alloc: Global, ends: &[(u32, u32)]) -> Result<Graph, AllocError> {
+    assert!(rt; ends.len() <= 4_194_304);
     let mut edges = Vec::new(alloc);
-    let ends = [
-        (0, 1),
-        (0, 4),
-        (1, 2),
-        (1, 5),
-        (2, 3),
-        (2, 6),
-        (3, 7),
-        (4, 5),
-        (5, 6),
-        (6, 7),
-    ];
-    for (u, v) in ends {
+    for &(u, v) in ends {
         assert!(rt; u < 8 && v < 8 && u != v);
         edges.push(Edge { u, v, w: 0 })?;
     }
@@ -34,7 +37,7 @@ fn picture(rt: &impl Abort, alloc: Global) -> Result<Graph, Fail> {
 
 #[test]
 fn two_squares(rt: HostRuntime) -> Result<(), Fail> {
-    let graph = picture(&rt, rt.alloc())?;
+    let graph = graph_of(&rt, rt.alloc(), PICTURE.as_slice())?;
     let order = Order::of(&rt, rt.alloc(), &graph).expect(&rt, "ample memory");
     assert!(rt; graph.n() == 8);
     let plan = Plan::squares(rt.alloc(), &graph, &order, 4, 2, 2).expect(&rt, "ample memory");

@@ -50,14 +50,31 @@ fn two_squares(rt: HostRuntime) -> Result<(), Fail> {
     assert_eq!(rt; plan.parent(0), Some((2, Side::Left)));
     assert_eq!(rt; plan.parent(1), Some((2, Side::Right)));
     assert_eq!(rt; plan.parent(2), None);
-    assert_eq!(rt; (plan.range(0), plan.range(1), plan.range(2)), ((0, 4), (4, 4), (0, 8)));
-    let room = Room { places: 8, chunks: 2 };
+    assert_eq!(rt;
+        (plan.range(0), plan.range(1), plan.range(2)),
+        ((0, 4), (4, 4), (0, 8))
+    );
+    let room = Room {
+        places: 8,
+        chunks: 2,
+    };
     assert_eq!(rt; plan.room_of(0), room);
-    let room = Room { places: 4, chunks: 1 };
+    let room = Room {
+        places: 4,
+        chunks: 1,
+    };
     assert_eq!(rt; plan.room_of(1), room);
     let lot = [
-        PlacedEdge { rank: 2, a: 1, b: 4 },
-        PlacedEdge { rank: 8, a: 3, b: 6 },
+        PlacedEdge {
+            rank: 2,
+            a: 1,
+            b: 4,
+        },
+        PlacedEdge {
+            rank: 8,
+            a: 3,
+            b: 6,
+        },
     ];
     assert_eq!(rt; plan.lot(2), lot.as_slice());
     assert_eq!(rt; (plan.lot(0).len(), plan.lot(1).len()), (4, 4));
@@ -89,7 +106,11 @@ fn at_most_65536_tiles(rt: HostRuntime) {
         (1, None, Ok(1)),
         (65536, None, Ok(65536)),
         (65537, None, Err(PlanFault::TooManyTiles(65537))),
-        (262144, Some((512, 512, 1)), Err(PlanFault::TooManyTiles(262144))),
+        (
+            262144,
+            Some((512, 512, 1)),
+            Err(PlanFault::TooManyTiles(262144)),
+        ),
         (262144, Some((512, 512, 64)), Ok(64)),
     ];
     for (n, shape, answer) in rows {

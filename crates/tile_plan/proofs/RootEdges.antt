@@ -1,14 +1,13 @@
 -- The edges at and below the root are all edges of the plan.
-use Rattle.std.proofs.Common.{◌≡◌, ℕ, ◌+◌, ◌-◌, ◌*◌, ◌<◌, ◌≤◌, cond, Bool, true, false, inl, inr, refl, sym, ◌∙◌, subst, ap, arith, List, [], ◌∷◌, ◌++◌, length}
+use Rattle.std.proofs.Common.{◌≡◌, ℕ, ◌+◌, ◌<◌, cond, Bool, true, false, refl, sym, ◌∙◌, subst, ap, arith, [], ◌∷◌, length}
 use Rattle.std.specs.Prelude.{nat_lt}
-use Rattle.std.specs.List.{flat_map}
 use Rattle.std.proofs.lemmas.List.{length-map}
 use Rattle.hg_base.specs.Edges.{ListedEdge, EdgeList, IsIn, AreApart, AreWithin, IsSameSet, in_order, placed_by_rank, joins, chain, renamed, renamed_edge}
 use Rattle.hg_base.proofs.Sets.{in_order-same, joins-same, chain-same}
 use Rattle.hg_base.proofs.Renaming.{joins-renamed, chain-renamed}
 use Rattle.tile_plan.specs.Sites.{Part, post_order}
 use Rattle.tile_plan.specs.Grids.{tree_in, root_of}
-use Rattle.tile_plan.specs.Plan.{TilePlan, IsPlan, grid_of, tile_count, part, part_count, root, vertices, place_of, post, lot_between_vertices, lot_edges, edges_at}
+use Rattle.tile_plan.specs.Plan.{TilePlan, IsPlan, grid_of, tile_count, part_count, root, vertices, place_of, post, lot_between_vertices, lot_edges, edges_at}
 use Rattle.tile_plan.proofs.Parts.{has-post}
 use Rattle.tile_plan.proofs.Mothers.{plan-has, root-part}
 use Rattle.tile_plan.proofs.Ranges.{places-once}

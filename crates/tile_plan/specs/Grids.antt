@@ -1,5 +1,5 @@
 -- Grids of tiles, as the code cuts them, beside their trees of merges.
-use Rattle.std.specs.Prelude.{◌≡◌, ℕ, ◌+◌, ◌*◌, ◌<◌, ◌≤◌, ◌==◌, ◌-◌, ◌/◌, ◌%◌, Bool, ◌&&◌, List, map, nat_lt, nat_le, if◌then◌else◌}
+use Rattle.std.specs.Prelude.{◌≡◌, ℕ, ◌+◌, ◌*◌, ◌≤◌, ◌-◌, ◌/◌, ◌%◌, ◌&&◌, List, map, nat_lt, nat_le, if◌then◌else◌}
 use Rattle.std.specs.List.{range_with_len}
 use Rattle.tile_plan.specs.Merges.{MergeTree, Tile, Merge, half, merge_tree, IsCut, tiles, merges, tile_at}
 use Rattle.tile_plan.specs.Sites.{Part, find, left_site, right_site, left_of, right_of}
@@ -61,7 +61,7 @@ lot_number n Tile s a b = s.first_tile
 lot_number n (Merge by k x y) s a b =
     if nat_lt a (s.first_tile + tiles x) && nat_lt b (s.first_tile + tiles x) then lot_number n x (left_site n x y s) a b else
     (if nat_le (s.first_tile + tiles x) a && nat_le (s.first_tile + tiles x) b then lot_number n y (right_site n x y s) a b
-     else n + s.first_merge + merges x + merges y)
+    else n + s.first_merge + merges x + merges y)
 
 -- where the root of a plan of n tiles stands; its mother is a part of its own, beyond the last
 abbrev pub root_of : ℕ → Site

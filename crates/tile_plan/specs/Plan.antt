@@ -1,14 +1,13 @@
 -- Tile plans, as contracts see them: what they are made of, and everything that follows from it.
-use Rattle.std.specs.Prelude.{◌≡◌, ℕ, ◌+◌, ◌-◌, ◌*◌, ◌/◌, ◌%◌, ◌<◌, ◌≤◌, ◌==◌, ◌≢◌, List, [], ◌∷◌, length, map, filter, Option, Some, None, Result, Ok, Err, if◌then◌else◌}
-use Rattle.std.specs.Int.{div_ceil}
+use Rattle.std.specs.Prelude.{◌≡◌, ℕ, ◌+◌, ◌-◌, ◌*◌, ◌<◌, ◌≤◌, ◌==◌, ◌≢◌, List, length, filter, Option, Some, None, Result, Ok, Err, if◌then◌else◌}
 use Rattle.std.specs.List.{flat_map}
 use Rattle.hg_base.specs.Graph.{WeightedGraph}
 use Rattle.hg_base.specs.Rank.{ranked}
 use Rattle.hg_base.specs.Edges.{ListedEdge, EdgeList, IsIn, renamed}
 use Rattle.hg_base.specs.Rising.{IsRising}
-use Rattle.tile_plan.specs.Merges.{tiles, tile_at}
+use Rattle.tile_plan.specs.Merges.{tiles}
 use Rattle.tile_plan.specs.Sites.{Part, post_order, is_lot_of, left_of, right_of}
-use Rattle.tile_plan.specs.Grids.{IsSmall, tiles_in, tree_in, part_in}
+use Rattle.tile_plan.specs.Grids.{tiles_in, part_in}
 use Rattle.tile_plan.specs.Frames.{vertices_in, grid_in, home_in, IsFrame}
 use Rattle.tile_plan.specs.Placing.{place_by, start_by}
 use Rattle.tile_plan.specs.declared.site.Grid.{Grid}

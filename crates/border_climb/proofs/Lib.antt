@@ -9,3 +9,5 @@ pub mod Writes
 pub mod Counting
 pub mod Opens
 pub mod Splices
+pub mod Parts
+pub mod Lots

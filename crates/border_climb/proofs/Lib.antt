@@ -9,3 +9,6 @@ pub mod Writes
 pub mod Counting
 pub mod Opens
 pub mod Splices
+pub mod Parts
+pub mod Lots
+pub mod Uniting

@@ -187,6 +187,7 @@ sound-noted p q l s n =
           | inr made ↦ (let t : turn_of q h.cell ≡ turn_of p h.cell = same.turns h.cell in let u : h.turn ≡ turn_of p h.cell = made.turn in omega arith)
         ];
         fingers = λ x h eq fresh. subst (λ (t : ℕ). h.turn ≤ t) (sym (same.turns h.cell)) (s.old.fingers x h (finger x h eq) fresh);
+        turned = λ i c is. subst (λ (t : ℕ). 1 ≤ t) (sym (same.turns i)) (s.old.turned i c (sym (same.cells i) ∙ is));
       };
     }
   where
@@ -218,6 +219,7 @@ sound-fingered p q place h s low eq d met turn = subst IsSound (sym eq) put
               | inl here ↦ subst (λ (g : Hint). g.turn ≤ turn_of p g.cell) (one here.1) (omega arith)
               | inr old ↦ s.old.fingers x k old.1 fresh
             ];
+            turned = s.old.turned;
           };
         }
       where

@@ -117,6 +117,7 @@ seam-noted p q e s t first second m l above n =
             | inr made ↦ (let a : turn_of q h.cell ≡ turn_of p h.cell = same.turns h.cell in let b : h.turn ≡ turn_of p h.cell = made.turn in omega arith)
           ];
           fingers = λ x h eq fresh. subst (λ (k : ℕ). h.turn ≤ k) (sym (same.turns h.cell)) (m.noted.old.fingers x h (finger x h eq) fresh);
+          turned = λ i c is. subst (λ (k : ℕ). 1 ≤ k) (sym (same.turns i)) (m.noted.old.turned i c (sym (same.cells i) ∙ is));
         };
       };
     }
@@ -143,6 +144,7 @@ noted-fewer p q same s n = record {
   old = record {
     hints = λ i h eq fresh. subst (λ (k : ℕ). h.turn ≤ k) (sym (same.turns h.cell)) (n.old.hints i h (sym (same.hints i) ∙ eq) fresh);
     fingers = λ x h eq fresh. subst (λ (k : ℕ). h.turn ≤ k) (sym (same.turns h.cell)) (n.old.fingers x h (sym (same.fingers x) ∙ eq) fresh);
+    turned = λ i c is. (let own = same.ranks i c is in subst (λ (k : ℕ). 1 ≤ k) (sym (same.turns i)) (n.old.turned i own.cell own.is));
   };
 }
   where

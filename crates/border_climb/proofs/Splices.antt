@@ -199,6 +199,10 @@ noted-opened p a b first second id rank m s n =
       old = record {
         hints = λ i h eq fresh. (let k = hint i h (sym (hints i) ∙ eq) in later q turns h (n.old.hints i h k.1) fresh);
         fingers = λ x h eq fresh. later q turns h (n.old.fingers x h (sym (fingers x) ∙ eq)) fresh;
+        turned = λ i c is. elim (turn-cases p id (record { rank = rank; up = None }) m.pool_is cov i) [
+          | inl own ↦ (let t : turn_of q i ≡ next_turn (turn_of p id) = turns i ∙ own.1 in omega arith)
+          | inr off ↦ (let was = o.cells i c off.0 is in subst (λ (k : ℕ). 1 ≤ k) (sym (turns i ∙ off.1)) (n.old.turned i was.before was.is))
+        ];
       };
     }
       where

@@ -195,6 +195,7 @@ pub(crate) fn splice(region: &mut Region, e: PlacedEdge) -> Given
     ensures spliced { (f : ListedEdge) (s : EdgeList) → placed f ≡ e → IsLinkedList region.old s e.rank → IsSpliced region.new f s result }
     ensures sound { IsSound region.new }
     ensures range { KeepsRange region.old region.new }
+    ensures small { e.rank < 2 ^ 32 }
 {
     let first = last_below(region, e.a, e.rank);
     let second = last_below(region, e.b, e.rank);

@@ -5,6 +5,7 @@ pub mod ChildLemmas
 pub mod TreeLemmas
 pub mod CellLemmas
 pub mod NumberingLaws
+pub mod PlacedTree
 pub mod ListLemmas
 pub mod ListTree
 pub mod TestLemmas

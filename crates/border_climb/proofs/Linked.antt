@@ -141,6 +141,13 @@ own-chain s f i =
     let p = IsIn-joins_kept s f i in
     IsIn-chain s f.u f (record { member = p.0; joining = p.1; touching = or_left _ _ ((IsSame-joined (below s f.rank)).self f.u) })
 
+-- each edge of a chain has a cell
+pub climb-meets : (pool : CellPool) (s : EdgeList) → AreApart s → AreLinked pool s → (x : ℕ) → Points pool (leaf_of pool x) (next s x 0) → (f : ListedEdge) → IsIn f (chain s x) → (id : ℕ) × HasRank pool id f.rank
+climb-meets pool s h l x p f i =
+    let w = meets pool (rest s x 0) (leaf_of pool x) (climbs pool s h 0 (linked-from pool s l 0) (rest s x 0) x 0 (leaf_of pool x) (omega arith) refl p) f
+        (IsIn-filter (λ (e : ListedEdge). nat_le 0 e.rank) f (chain s x) (le-leb 0 f.rank (omega arith)) i) in
+    (w.1.0, w.1.1.1)
+
 -- Where the links are those of the list, the part stands for it.
 pub Stands-linked : (part : PartState) (s : EdgeList) → AreBetween part.region s → AreLinked part.region s → part.given ≡ length s → Stands part s
 Stands-linked part s b l n = record {

@@ -50,7 +50,7 @@ last-none pool s h x r (Some i) last before =
     absurd (next-quiet s h x 0 last.edge out.0 (omega arith) (IsBefore-to (next s x 0) last.edge.rank r (omega arith) before) out.1)
 
 -- a cell of an edge of the chain below r, behind which nothing comes before r, is the last one
-last-one : (pool : CellPool) (s : EdgeList) → AreApart s → AreLinked pool s → (x r : ℕ) (o : Option ℕ) → IsLast pool s x r o → (f : ListedEdge) → IsIn f s → leaves s x f ≡ true → f.rank < r →
+pub last-one : (pool : CellPool) (s : EdgeList) → AreApart s → AreLinked pool s → (x r : ℕ) (o : Option ℕ) → IsLast pool s x r o → (f : ListedEdge) → IsIn f s → leaves s x f ≡ true → f.rank < r →
     IsBefore (next s x (suc f.rank)) r → (j : ℕ) → HasRank pool j f.rank → o ≡ Some j
 last-one pool s h l x r None last f i out low before j at =
     absurd (next-quiet s h x 0 f i (omega arith) (IsBefore-to (next s x 0) f.rank r (omega arith) last) out)

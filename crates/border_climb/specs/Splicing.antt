@@ -1,11 +1,15 @@
 -- The states of a splice: the new edge's cell is put in, and the two chains above it are merged.
-use Rattle.std.specs.Prelude.{◌≡◌, ◌↔◌, ℕ, suc, ◌<◌, ◌≤◌, ◌⊎◌, ◌||◌, true, false, ◌∷◌, Option, Some, None}
+use Rattle.std.specs.Prelude.{◌≡◌, ◌≢◌, ◌↔◌, ℕ, suc, ◌<◌, ◌≤◌, ◌⊎◌, ◌||◌, true, false, ◌∷◌, Option, Some, None, IfSome}
 use Rattle.std.specs.Option.{option_map_or}
 use Rattle.hg_base.specs.Edges.{ListedEdge, EdgeList, IsIn, AreEnds, AreApart, Joined, joined, below, joins, chain, next}
-use Rattle.hg_base.specs.Splice.{ComesAfter}
-use Rattle.node_region.specs.Pool.{CellPool, IsCovered, cell_at, leaf_of}
+use Rattle.hg_base.specs.Splice.{ComesAfter, IsRedundant}
+use Rattle.hg_base.specs.Saliency.{MeetFirst}
+use Rattle.node_region.specs.Pool.{CellPool, IsPool, count, IsCovered, IsUsed, cell_at, leaf_of}
 use Rattle.node_region.specs.declared.cell.Cell.{Cell}
-use Rattle.border_climb.specs.Linked.{HasRank, Points, IsCellOf}
+use Rattle.border_climb.specs.Linked.{HasRank, Points, IsCellOf, AreLinked, AreBetween}
+use Rattle.border_climb.specs.Notes.{AreNoted}
+use Rattle.border_climb.specs.declared.given.Given.{Given}
+use Rattle.border_climb.specs.declared.given.Given.TheVariants as answers
 
 -- The last cell of rank below r on the chain of x: no cell where the chain has none. What comes next isn't below r.
 pub record IsLastCell (pool : CellPool) (s : EdgeList) (x r id : ℕ) : Type 0 where
@@ -77,3 +81,66 @@ pub record IsOpened (old new : CellPool) (a b : ℕ) (first second : Option ℕ)
   pub leafs : (x : ℕ) → IsCovered new x →
       ((leaf_of new x ≡ Some id) × (((x ≡ a) × (first ≡ None)) ⊎ ((x ≡ b) × (second ≡ None)))) ⊎
       ((leaf_of new x ≡ leaf_of old x) × ((x ≡ a → first ≡ None → ⊥) × (x ≡ b → second ≡ None → ⊥)))
+
+-- the numbers, the chunks and the room stay
+pub record KeepsRange (old new : CellPool) : Type 0 where
+  pub first : new.first ≡ old.first
+  pub count : count new ≡ count old
+  pub chunks : new.chunks ≡ old.chunks
+  pub room : new.room ≡ old.room
+
+-- the rank of a number's cell, or 0 where it has none
+abbrev pub rank_of : CellPool → ℕ → ℕ
+rank_of pool id = option_map_or (λ c. c.rank) (cell_at pool id) 0
+
+-- two chains are being merged, and the notes are those of the list without e
+pub record IsSeam (pool : CellPool) (e : ListedEdge) (s : EdgeList) (t : ℕ) (first second : Option ℕ) : Type 0 where
+  pub merging : IsMerging pool e s t first second
+  pub noted : AreNoted pool s
+
+-- for some edge and list two chains are being merged
+abbrev pub SomeSeam : CellPool → ℕ → Option ℕ → Option ℕ → Type 0
+SomeSeam pool t first second = (e : ListedEdge) × ((s : EdgeList) × IsSeam pool e s t first second)
+
+-- whatever is being merged before still is after a step
+abbrev pub StepsTo : CellPool → ℕ → Option ℕ → Option ℕ → CellPool → ℕ → Option ℕ → Option ℕ → Type 0
+StepsTo old t first second new u third fourth = (e : ListedEdge) (s : EdgeList) → IsSeam old e s t first second → IsSeam new e s u third fourth
+
+-- what an answer says of an edge and a list
+abbrev pub Tells : ListedEdge → EdgeList → Given → Type 0
+Tells e s answers.Redundant = IsRedundant e s
+Tells e s answers.Joined = ¬ IsRedundant e s × ¬ Joined s e.u e.v
+Tells e s (answers.Replaced z) = ¬ IsRedundant e s × ((f : ListedEdge) × (MeetFirst s e.u e.v f × (f.rank ≡ z)))
+
+-- the merge is done: the links are those of the list with e
+pub record IsMerged (pool : CellPool) (e : ListedEdge) (s : EdgeList) (answer : Given) : Type 0 where
+  pub links : AreLinked pool (e ∷ s)
+  pub noted : AreNoted pool s
+  pub told : Tells e s answer
+
+abbrev pub EndsIn : CellPool → ℕ → Option ℕ → Option ℕ → CellPool → Given → Type 0
+EndsIn old t first second new answer = (e : ListedEdge) (s : EdgeList) → IsSeam old e s t first second → IsMerged new e s answer
+
+-- the links are those of the list, whose edges are between the pool's places and have other ranks
+pub record IsLinkedList (pool : CellPool) (s : EdgeList) (rank : ℕ) : Type 0 where
+  pub between : AreBetween pool s
+  pub links : AreLinked pool s
+  pub fresh : (f : ListedEdge) → IsIn f s → f.rank ≢ rank
+
+-- the links are those of the list with e, and the answer tells what it did
+pub record IsSpliced (pool : CellPool) (e : ListedEdge) (s : EdgeList) (answer : Given) : Type 0 where
+  pub links : AreLinked pool (e ∷ s)
+  pub told : Tells e s answer
+
+-- the links are those of some list
+abbrev pub SomeList : CellPool → ℕ → Type 0
+SomeList pool rank = (s : EdgeList) × IsLinkedList pool s rank
+
+-- a free number, and what is needed to put a new cell above two chains
+pub record CanOpen (pool : CellPool) (a b : ℕ) (first second : Option ℕ) (id : ℕ) : Type 0 where
+  pub pool_is : IsPool pool
+  pub a_covered : IsCovered pool a
+  pub b_covered : IsCovered pool b
+  pub first_used : IfSome first (IsUsed pool)
+  pub second_used : IfSome second (IsUsed pool)
+  pub free : IsIn id pool.free

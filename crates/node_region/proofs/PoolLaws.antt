@@ -1,8 +1,7 @@
 -- Each change of a pool keeps what every pool keeps to.
-use Rattle.std.proofs.Common.{◌≡◌, ◌≢◌, ℕ, zero, suc, ◌+◌, ◌-◌, ◌<◌, ◌≤◌, ◌⊎◌, inl, inr, Bool, true, false, cond, List, [], ◌∷◌, ◌++◌, length, get_or, set, drop, count_by, is_none, replicate, Option, Some, None, IsSome, refl, sym, ap, ◌∙◌, subst, arith, length-append}
-use Rattle.std.specs.List.{range_with_len, sum_by}
+use Rattle.std.proofs.Common.{◌≡◌, ◌≢◌, ℕ, suc, ◌+◌, ◌-◌, ◌<◌, ◌≤◌, inl, inr, Bool, true, false, cond, List, ◌∷◌, length, get_or, set, drop, count_by, is_none, replicate, Option, Some, None, IsSome, refl, sym, ap, ◌∙◌, subst, arith, length-append}
 use Rattle.std.proofs.lemmas.Bool.{cases_eq, cases_lt}
-use Rattle.std.proofs.lemmas.List.{length-set, length-replicate, get_or-replicate, get_or_append_left, get_or-append_right}
+use Rattle.std.proofs.lemmas.List.{length-set, length-replicate, get_or-replicate}
 use Rattle.std.proofs.lemmas.List.Sums.{sum_by-set, sum_by-append}
 use Rattle.std.proofs.lemmas.List.Folds.{sum_by-replicate}
 use Rattle.std.proofs.lemmas.List.FromFn.{length-range_with_len}
@@ -11,7 +10,7 @@ use Rattle.hg_base.specs.declared.graph.Room.{Room}
 use Rattle.hg_base.proofs.Components.{IsIn-append, IsIn-append_back}
 use Rattle.node_region.specs.declared.cell.Cell.{Cell}
 use Rattle.node_region.specs.declared.cell.Hint.{Hint}
-use Rattle.node_region.specs.Pool.{CellPool, IsPool, IsCovered, IsUsed, IsNextTo, AreDifferent, count, cell_at, entry, fresh_pool, with_cell, with_taken, with_given_back, with_leaf, with_hint, with_finger, appended, next_turn, turn_of}
+use Rattle.node_region.specs.Pool.{CellPool, IsPool, IsCovered, IsUsed, IsNextTo, AreDifferent, cell_at, entry, fresh_pool, with_cell, with_taken, with_given_back, with_leaf, with_hint, with_finger, appended, next_turn, turn_of}
 use Rattle.node_region.proofs.Threads.{rising-from, rising-in, rising-different, different-append}
 use Rattle.node_region.proofs.Entries.{entry-is, entry-set_same, entry-set_other, entry-covered, nothing-is_not, entry-append_left, entry-append_right}
 
@@ -74,12 +73,12 @@ with_cell-pool p h id used c =
     let had = entry-is p.first p.cells id covered.0 in
     let sum = counted-set p.cells (id - p.first) (Some c) false (omega (arith, covered.0, covered.1)) (none-no _ (subst (λ o. IsSome o) had used)) in
     cells-written p h id covered (Some c) p.free p.turns p.hints refl refl
-        (λ i free. (h.free_is_covered i free, other i (h.free_is_covered i free).0 (λ same. used-not_free p h id used (subst (λ (n : ℕ). IsIn n p.free) same free)) ∙ h.free_has_no_cell i free))
-        (λ i at none. elim (cases_eq i id) [
-          | inl same ↦ absurd (no-cell c (sym is ∙ ap (λ (n : ℕ). entry p.first (set p.cells (id - p.first) (Some c)) n) (sym same) ∙ none))
-          | inr off ↦ h.rest_is_free i at (sym (other i at.0 off) ∙ none)
-        ])
-        h.free_once (h.free_count ∙ omega (arith, sum))
+    (λ i free. (h.free_is_covered i free, other i (h.free_is_covered i free).0 (λ same. used-not_free p h id used (subst (λ (n : ℕ). IsIn n p.free) same free)) ∙ h.free_has_no_cell i free))
+    (λ i at none. elim (cases_eq i id) [
+      | inl same ↦ absurd (no-cell c (sym is ∙ ap (λ (n : ℕ). entry p.first (set p.cells (id - p.first) (Some c)) n) (sym same) ∙ none))
+      | inr off ↦ h.rest_is_free i at (sym (other i at.0 off) ∙ none)
+    ])
+    h.free_once (h.free_count ∙ omega (arith, sum))
 
 -- the first free number has a cell
 pub with_taken-pool : (p : CellPool) → IsPool p → (id : ℕ) (rest : List ℕ) → p.free ≡ id ∷ rest → (c : Cell) → IsPool (with_taken p id c)
@@ -95,16 +94,16 @@ with_taken-pool p h id rest split c =
     let long : length p.free ≡ suc (length rest) = ap length split in
     let left : drop 1 p.free ≡ rest = ap (λ (xs : List ℕ). drop 1 xs) split in
     rw left (cells-written p h id covered (Some c) rest (set p.turns (id - p.first) (next_turn (turn_of p id))) (set p.hints (id - p.first) None)
-        (length-set p.turns (id - p.first) (next_turn (turn_of p id))) (length-set p.hints (id - p.first) None)
-        (λ i free. (h.free_is_covered i (listed i (inr free)), other i (h.free_is_covered i (listed i (inr free))).0 (λ same. once.0 (subst (λ (n : ℕ). IsIn n rest) same free)) ∙ h.free_has_no_cell i (listed i (inr free))))
-        (λ i at none. elim (cases_eq i id) [
-          | inl same ↦ absurd (no-cell c (sym is ∙ ap (λ (n : ℕ). entry p.first (set p.cells (id - p.first) (Some c)) n) (sym same) ∙ none))
-          | inr off ↦ elim (subst (λ (xs : List ℕ). IsIn i xs) split (h.rest_is_free i at (sym (other i at.0 off) ∙ none))) [
-            | inl same ↦ absurd (off (sym same))
-            | inr in_rest ↦ in_rest
-          ]
-        ])
-        once.1 (omega (arith, sum, long, h.free_count)))
+    (length-set p.turns (id - p.first) (next_turn (turn_of p id))) (length-set p.hints (id - p.first) None)
+    (λ i free. (h.free_is_covered i (listed i (inr free)), other i (h.free_is_covered i (listed i (inr free))).0 (λ same. once.0 (subst (λ (n : ℕ). IsIn n rest) same free)) ∙ h.free_has_no_cell i (listed i (inr free))))
+    (λ i at none. elim (cases_eq i id) [
+      | inl same ↦ absurd (no-cell c (sym is ∙ ap (λ (n : ℕ). entry p.first (set p.cells (id - p.first) (Some c)) n) (sym same) ∙ none))
+      | inr off ↦ elim (subst (λ (xs : List ℕ). IsIn i xs) split (h.rest_is_free i at (sym (other i at.0 off) ∙ none))) [
+        | inl same ↦ absurd (off (sym same))
+        | inr in_rest ↦ in_rest
+      ]
+    ])
+    once.1 (omega (arith, sum, long, h.free_count)))
 
 -- a number has no cell any more
 pub with_given_back-pool : (p : CellPool) → IsPool p → (id : ℕ) → IsUsed p id → IsPool (with_given_back p id)
@@ -115,15 +114,15 @@ with_given_back-pool p h id used =
     let had = entry-is p.first p.cells id covered.0 in
     let sum = counted-set p.cells (id - p.first) None false (omega (arith, covered.0, covered.1)) (none-no _ (subst (λ o. IsSome o) had used)) in
     cells-written p h id covered None (id ∷ p.free) p.turns p.hints refl refl
-        (λ i free. elim free [
-          | inl same ↦ subst (λ (n : ℕ). IsCovered p n × (entry p.first (set p.cells (id - p.first) None) n ≡ None)) same (covered, is)
-          | inr there ↦ (h.free_is_covered i there, other i (h.free_is_covered i there).0 (λ same. used-not_free p h id used (subst (λ (n : ℕ). IsIn n p.free) same there)) ∙ h.free_has_no_cell i there)
-        ])
-        (λ i at none. elim (cases_eq i id) [
-          | inl same ↦ inl (sym same)
-          | inr off ↦ inr (h.rest_is_free i at (sym (other i at.0 off) ∙ none))
-        ])
-        (used-not_free p h id used, h.free_once) (omega (arith, sum, h.free_count))
+    (λ i free. elim free [
+      | inl same ↦ subst (λ (n : ℕ). IsCovered p n × (entry p.first (set p.cells (id - p.first) None) n ≡ None)) same (covered, is)
+      | inr there ↦ (h.free_is_covered i there, other i (h.free_is_covered i there).0 (λ same. used-not_free p h id used (subst (λ (n : ℕ). IsIn n p.free) same there)) ∙ h.free_has_no_cell i there)
+    ])
+    (λ i at none. elim (cases_eq i id) [
+      | inl same ↦ inl (sym same)
+      | inr off ↦ inr (h.rest_is_free i at (sym (other i at.0 off) ∙ none))
+    ])
+    (used-not_free p h id used, h.free_once) (omega (arith, sum, h.free_count))
 
 -- what stands above a place, and what is noted, is no matter
 pub others-written : (p : CellPool) → IsPool p → (leafs : List (Option ℕ)) (hints fingers : List (Option Hint)) → length leafs ≡ length p.leafs → length hints ≡ length p.hints → length fingers ≡ length p.fingers

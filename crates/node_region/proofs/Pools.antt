@@ -1,8 +1,5 @@
 -- When two pools are one.
-use Rattle.std.proofs.Common.{◌≡◌, ℕ, List, Option, refl}
-use Rattle.hg_base.specs.declared.graph.Room.{Room}
-use Rattle.node_region.specs.declared.cell.Cell.{Cell}
-use Rattle.node_region.specs.declared.cell.Hint.{Hint}
+use Rattle.std.proofs.Common.{◌≡◌}
 use Rattle.node_region.specs.Pool.{CellPool}
 
 pub record SameLists (p q : CellPool) : Type 0 where

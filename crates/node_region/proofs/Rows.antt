@@ -1,7 +1,7 @@
 -- Tables in a row: where the entries of each stand among all entries, and what a write to one changes.
 use Rattle.std.proofs.Common.{◌≡◌, ℕ, zero, suc, ◌+◌, ◌-◌, ◌<◌, ◌≤◌, List, [], ◌∷◌, ◌++◌, length, get_or, set, take, refl, sym, ap, ◌∙◌, arith, zero-add, add-zero, length-append}
 use Rattle.std.specs.List.{flat_map}
-use Rattle.std.proofs.lemmas.List.{take_more, append-nil, set-append_left, set-append_right, set-get_or, take_all}
+use Rattle.std.proofs.lemmas.List.{take_more, append-nil, set-append_left, set-append_right, take_all}
 use Rattle.std.proofs.lemmas.List.Concat.{flat_map-append, get_or-flat_map}
 use Rattle.node_region.specs.declared.chunk.Chunk.{Chunk}
 use Rattle.node_region.specs.declared.chunk.At.{At}
@@ -104,13 +104,13 @@ pub slot-written : (chunks : List Chunk) (at : At) → IsAt chunks at → (c y :
     → slots_of (set chunks at.chunk y) ≡ set (slots_of chunks) (number_at chunks at) s
 slot-written chunks at is c y s table written =
     set-flat_map (λ x. x.slots.items) chunks at.chunk at.index y c s is.chunk (at-within chunks at is c)
-        (written ∙ ap (λ (x : Chunk). set x.slots.items at.index s) table)
+    (written ∙ ap (λ (x : Chunk). set x.slots.items at.index s) table)
 
 pub place-written : (first : ℕ) (chunks : List Chunk) → AreInRow first chunks → (at : At) → IsAt chunks at → (c y : Chunk) (p : Place) → c ≡ get_or chunks at.chunk c → y.places.items ≡ set c.places.items at.index p
     → places_of (set chunks at.chunk y) ≡ set (places_of chunks) (number_at chunks at) p
 place-written first chunks row at is c y p table written =
     let there = set-flat_map (λ x. x.places.items) chunks at.chunk at.index y c p is.chunk (place-within first chunks row at is c)
-        (written ∙ ap (λ (x : Chunk). set x.places.items at.index p) table) in
+    (written ∙ ap (λ (x : Chunk). set x.places.items at.index p) table) in
     rw (places-before first chunks row at.chunk) at there
 
 -- the place is in its table

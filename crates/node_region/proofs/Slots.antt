@@ -1,11 +1,11 @@
 -- What a write of the entry of a number changes of the lists that are read from the entries.
-use Rattle.std.proofs.Common.{◌≡◌, ◌≢◌, ℕ, zero, suc, ◌+◌, ◌-◌, ◌<◌, ◌≤◌, List, length, get_or, set, map, Option, refl, sym, ap, ◌∙◌, subst, arith}
-use Rattle.std.proofs.lemmas.List.{map-set, length-map, get_or-map}
+use Rattle.std.proofs.Common.{◌≡◌, ◌≢◌, ℕ, suc, ◌+◌, ◌-◌, ◌<◌, ◌≤◌, List, length, get_or, set, map, ap, ◌∙◌, arith}
+use Rattle.std.proofs.lemmas.List.{map-set}
 use Rattle.std.proofs.Math.Seq.{map-set_same}
 use Rattle.hg_base.specs.Edges.{IsIn}
 use Rattle.node_region.specs.declared.chunk.Slot.{Slot}
 use Rattle.node_region.specs.declared.chunk.FreeList.{FreeList}
-use Rattle.node_region.specs.Tables.{cells_in, links_in, cell_of, link_of, next_of, thread, told_after, free_in, IsTail}
+use Rattle.node_region.specs.Tables.{links_in, link_of, next_of, thread, free_in, IsTail}
 use Rattle.node_region.proofs.Threads.{TellSame, thread-kept, told-same, thread-longer}
 use Rattle.node_region.proofs.Entries.{next-set_other}
 
@@ -43,5 +43,5 @@ pub tail-kept : (first : ℕ) (slots : List Slot) (n id : ℕ) (s y : Slot) → 
 tail-kept first slots n id s y e free apart tail k more =
     let long : free.count ≡ suc k = omega (arith, more) in
     let some = others-tell_same first slots n id s y e (thread first (links_in slots) k free.head)
-        (λ i is. apart i (rw long (thread-longer first (links_in slots) k free.head i is))) in
+    (λ i is. apart i (rw long (thread-longer first (links_in slots) k free.head i is))) in
     told-same first (links_in slots) (links_in (set slots n y)) k free.head some ∙ tail k more

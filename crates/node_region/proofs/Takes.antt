@@ -1,18 +1,17 @@
 -- What a region is seen as after a number was taken or given back.
-use Rattle.std.proofs.Common.{◌≡◌, ◌≢◌, ℕ, zero, suc, ◌+◌, ◌-◌, ◌<◌, ◌≤◌, inl, inr, List, [], ◌∷◌, length, get_or, set, map, drop, min, ◌^◌, is_none, Option, Some, None, refl, sym, ap, ◌∙◌, subst, add-one, arith}
+use Rattle.std.proofs.Common.{◌≡◌, ◌≢◌, ℕ, zero, suc, ◌+◌, ◌-◌, ◌≤◌, inl, inr, List, ◌∷◌, set, map, drop, is_none, Some, None, refl, sym, ap, ◌∙◌, subst, add-one, arith}
 use Rattle.std.proofs.lemmas.List.{length-map, get_or-map}
 use Rattle.hg_base.specs.Edges.{IsIn}
 use Rattle.node_region.specs.declared.cell.Cell.{Cell}
-use Rattle.node_region.specs.declared.chunk.State.{State}
 use Rattle.node_region.specs.declared.chunk.State.TheVariants.{Used, Free}
 use Rattle.node_region.specs.declared.chunk.Slot.{Slot}
 use Rattle.node_region.specs.declared.chunk.FreeList.{FreeList}
 use Rattle.node_region.specs.declared.tables.Tables.{Tables}
 use Rattle.node_region.specs.declared.region.Region.TheInside.{Inside}
-use Rattle.node_region.specs.Pool.{CellPool, IsPool, IsCovered, IsUsed, AreDifferent, cell_at, turn_of, with_taken, with_given_back, next_turn}
+use Rattle.node_region.specs.Pool.{CellPool, IsCovered, IsUsed, AreDifferent, with_taken, with_given_back, next_turn}
 use Rattle.node_region.specs.Tables.{slots_of, cells_in, links_in, cell_of, link_of, next_of, thread, told_after, free_in, IsTail}
 use Rattle.node_region.specs.RegionFields.{pool_of, IsRegion}
-use Rattle.node_region.proofs.Threads.{thread-kept, told-same, thread-longer, thread-first, thread-length, TellSame}
+use Rattle.node_region.proofs.Threads.{told-same, thread-longer, thread-first, thread-length}
 use Rattle.std.proofs.lemmas.List.Sums.{count_by-le-length}
 use Rattle.node_region.proofs.Entries.{next-set_same}
 use Rattle.node_region.proofs.Slots.{IsEntry, field-written, field-kept, others-tell_same, free-kept}
@@ -59,19 +58,19 @@ taken-seen r h some t n s y w next c was state turn hint =
     let left : drop 1 (pool_of r).free ≡ rest = ap (λ (xs : List ℕ). drop 1 xs) split in
     let once = subst (λ (xs : List ℕ). AreDifferent xs) split h.pool.free_once in
     let apart : (i : ℕ) → IsIn i rest → (first ≤ i) × (i ≢ id) = λ i is.
-        ((h.pool.free_is_covered i (subst (λ (xs : List ℕ). IsIn i xs) (sym split) (inr is))).0, λ same. once.0 (subst (λ (k : ℕ). IsIn k rest) same is)) in
+    ((h.pool.free_is_covered i (subst (λ (xs : List ℕ). IsIn i xs) (sym split) (inr is))).0, λ same. once.0 (subst (λ (k : ℕ). IsIn k rest) same is)) in
     slot-seen r h t n id s y w f _ _ _ _
-        (field-written (λ x. cell_of x.state) first slots n id s y w.entry ∙ ap (λ o. set (cells_in slots) (id - first) (cell_of o)) state)
-        (free-kept first slots n id s y w.entry f apart ∙ sym left)
-        (field-written (λ x. x.turn) first slots n id s y w.entry ∙ ap (λ k. set (map (λ x. x.turn) slots) (id - first) k) (turn ∙ ap next_turn (sym (turn-read r n id s w.entry))))
-        (field-written (λ x. x.hint) first slots n id s y w.entry ∙ ap (λ o. set (map (λ x. x.hint) slots) (id - first) o) hint)
-        (with_taken-pool (pool_of r) h.pool id rest split c)
-        (λ k more.
-            let long : r.free.count - 1 ≡ suc k = omega (arith, more) in
-            let same = others-tell_same first slots n id s y w.entry (thread first (links_in slots) k next)
-                (λ i is. apart i (rw long (thread-longer first (links_in slots) k next i is))) in
-            told-same first (links_in slots) (links_in (set slots n y)) k next same
-            ∙ ap (λ j. told_after first (links_in slots) k j) (sym told) ∙ h.tail (suc k) (omega (arith, more, some)))
+    (field-written (λ x. cell_of x.state) first slots n id s y w.entry ∙ ap (λ o. set (cells_in slots) (id - first) (cell_of o)) state)
+    (free-kept first slots n id s y w.entry f apart ∙ sym left)
+    (field-written (λ x. x.turn) first slots n id s y w.entry ∙ ap (λ k. set (map (λ x. x.turn) slots) (id - first) k) (turn ∙ ap next_turn (sym (turn-read r n id s w.entry))))
+    (field-written (λ x. x.hint) first slots n id s y w.entry ∙ ap (λ o. set (map (λ x. x.hint) slots) (id - first) o) hint)
+    (with_taken-pool (pool_of r) h.pool id rest split c)
+    (λ k more.
+    let long : r.free.count - 1 ≡ suc k = omega (arith, more) in
+    let same = others-tell_same first slots n id s y w.entry (thread first (links_in slots) k next)
+    (λ i is. apart i (rw long (thread-longer first (links_in slots) k next i is))) in
+    told-same first (links_in slots) (links_in (set slots n y)) k next same
+    ∙ ap (λ j. told_after first (links_in slots) k j) (sym told) ∙ h.tail (suc k) (omega (arith, more, some)))
 
 pub taken-split : (r : Inside) → IsRegion r → r.free.count ≢ 0 → (t : Tables) (n : ℕ) (s y : Slot) → SlotWritten r t n r.free.head s y → (next : ℕ) (c : Cell)
     → s.state ≡ Free next → y.state ≡ Used c → y.turn ≡ next_turn s.turn → y.hint ≡ None
@@ -100,15 +99,15 @@ given_back-seen r h t n id s y w f front used state turn hint =
     let covered = used-covered (pool_of r) id used in
     let written = field-written (λ x. link_of x.state) first slots n id s y w.entry in
     let told : next_of first m id ≡ r.free.head = ap (λ x. next_of first x id) written
-        ∙ next-set_same first l id (link_of y.state) covered.0 (omega (arith, w.entry.number, w.entry.within, length-map slots (λ x. link_of x.state))) ∙ ap link_of state in
+    ∙ next-set_same first l id (link_of y.state) covered.0 (omega (arith, w.entry.number, w.entry.within, length-map slots (λ x. link_of x.state))) ∙ ap link_of state in
     let kept = free-kept first slots n id s y w.entry r.free apart in
     slot-seen r h t n id s y w f _ _ _ _
-        (field-written (λ x. cell_of x.state) first slots n id s y w.entry ∙ ap (λ o. set (cells_in slots) (id - first) (cell_of o)) state)
-        (ap (λ k. thread first m k f.head) (front.count ∙ add-one r.free.count) ∙ ap (λ k. thread first m (suc r.free.count) k) front.head ∙ ap (λ k. id ∷ thread first m r.free.count k) told ∙ ap (λ xs. id ∷ xs) kept)
-        (field-kept (λ x. x.turn) first slots n id s y w.entry turn)
-        (field-kept (λ x. x.hint) first slots n id s y w.entry hint)
-        (with_given_back-pool (pool_of r) h.pool id used)
-        (ends told)
+    (field-written (λ x. cell_of x.state) first slots n id s y w.entry ∙ ap (λ o. set (cells_in slots) (id - first) (cell_of o)) state)
+    (ap (λ k. thread first m k f.head) (front.count ∙ add-one r.free.count) ∙ ap (λ k. thread first m (suc r.free.count) k) front.head ∙ ap (λ k. id ∷ thread first m r.free.count k) told ∙ ap (λ xs. id ∷ xs) kept)
+    (field-kept (λ x. x.turn) first slots n id s y w.entry turn)
+    (field-kept (λ x. x.hint) first slots n id s y w.entry hint)
+    (with_given_back-pool (pool_of r) h.pool id used)
+    (ends told)
   where
     ends : next_of r.tables.first (links_in (set (slots_of r.tables.chunks.items) n y)) id ≡ r.free.head → IsTail r.tables.first (set (slots_of r.tables.chunks.items) n y) f
     ends told zero more = front.head ∙ sym (front.only (omega (arith, more, front.count)))
@@ -117,7 +116,7 @@ given_back-seen r h t n id s y w f front used state turn hint =
         let slots = slots_of r.tables.chunks.items in
         let long : r.free.count ≡ suc k = omega (arith, more, front.count) in
         let same = others-tell_same first slots n id s y w.entry (thread first (links_in slots) k r.free.head)
-            (λ i is. free-apart r h id used i (rw long (thread-longer first (links_in slots) k r.free.head i is))) in
+        (λ i is. free-apart r h id used i (rw long (thread-longer first (links_in slots) k r.free.head i is))) in
         ap (λ j. told_after first (links_in (set slots n y)) k (next_of first (links_in (set slots n y)) j)) front.head
         ∙ ap (λ j. told_after first (links_in (set slots n y)) k j) told
         ∙ told-same first (links_in slots) (links_in (set slots n y)) k r.free.head same

@@ -1,5 +1,5 @@
 -- Numbers each of which tells the next: what a change of what they tell means for them.
-use Rattle.std.proofs.Common.{◌≡◌, ◌≢◌, ℕ, zero, suc, ◌+◌, ◌-◌, ◌<◌, ◌≤◌, ◌⊎◌, inl, inr, List, [], ◌∷◌, ◌++◌, length, get_or, set, refl, sym, ap, ◌∙◌, subst, zero-add, arith}
+use Rattle.std.proofs.Common.{◌≡◌, ◌≢◌, ℕ, zero, suc, ◌+◌, ◌-◌, ◌<◌, ◌≤◌, inl, inr, List, [], ◌∷◌, ◌++◌, length, refl, sym, ap, ◌∙◌, subst, zero-add, arith}
 use Rattle.std.proofs.lemmas.Bool.{cases_eq}
 use Rattle.std.specs.List.{range_with_len}
 use Rattle.hg_base.specs.Edges.{IsIn}
@@ -47,6 +47,17 @@ pub thread-kept : (first : ℕ) (l m : List ℕ) (k h : ℕ) → TellSame first 
 thread-kept first l m zero h same = refl
 thread-kept first l m (suc k) h same = thread-same first l m k h (λ i is. same i (thread-longer first l k h i is))
 
+-- the same for numbers of another range
+pub thread-moved : (first from : ℕ) (l m : List ℕ) (k h : ℕ) → ((i : ℕ) → IsIn i (thread first l k h) → next_of from m i ≡ next_of first l i) → thread from m k h ≡ thread first l k h
+thread-moved first from l m zero h same = refl
+thread-moved first from l m (suc k) h same =
+    rw (same h (inl refl)) (ap (λ is. h ∷ is) (thread-moved first from l m k (next_of first l h) (λ i is. same i (inr is))))
+
+pub told-moved : (first from : ℕ) (l m : List ℕ) (k h : ℕ) → ((i : ℕ) → IsIn i (thread first l k h) → next_of from m i ≡ next_of first l i) → told_after from m k h ≡ told_after first l k h
+told-moved first from l m zero h same = refl
+told-moved first from l m (suc k) h same =
+    rw (same h (inl refl)) (told-moved first from l m k (next_of first l h) (λ i is. same i (inr is)))
+
 -- a list is the numbers up to one, and those from the number that it tells on
 pub thread-split : (first : ℕ) (l : List ℕ) (k m h : ℕ) → thread first l (suc (k + m)) h ≡ thread first l (suc k) h ++ thread first l m (next_of first l (told_after first l k h))
 thread-split first l zero m h = rw zero-add refl
@@ -83,9 +94,10 @@ different-apart (x ∷ xs) ys once i (inr is) js = different-apart xs ys once.1 
 
 pub different-append : (xs ys : List ℕ) → AreDifferent xs → AreDifferent ys → ((i : ℕ) → IsIn i xs → IsIn i ys → ⊥) → AreDifferent (xs ++ ys)
 different-append [] ys once again apart = again
-different-append (x ∷ xs) ys once again apart =
-    (λ is. elim (IsIn-append_back x xs ys is) [ | inl front ↦ once.0 front | inr behind ↦ apart x (inl refl) behind ],
-     different-append xs ys once.1 again (λ i is js. apart i (inr is) js))
+different-append (x ∷ xs) ys once again apart = (
+  λ is. elim (IsIn-append_back x xs ys is) [ inl front ↦ once.0 front | inr behind ↦ apart x (inl refl) behind ],
+  different-append xs ys once.1 again (λ i is js. apart i (inr is) js),
+)
 
 -- a number within a range: all different
 pub rising-from : (a n i : ℕ) → IsIn i (range_with_len a n) → (a ≤ i) × (i < a + n)

@@ -1,26 +1,23 @@
 -- What a region is seen as after the entry of a number or of a place was written.
-use Rattle.std.proofs.Common.{◌≡◌, ◌≢◌, ℕ, zero, suc, ◌+◌, ◌-◌, ◌<◌, ◌≤◌, ◌⊎◌, inl, inr, List, [], ◌∷◌, ◌++◌, length, get_or, set, map, drop, Option, Some, None, IsSome, nat_le, nat_eq, ◌==◌, if◌then◌else◌, Bool, true, false, refl, sym, ap, ◌∙◌, subst, add-one, arith}
-use Rattle.std.proofs.lemmas.List.{length-map, get_or-map, length-set}
-use Rattle.std.proofs.lemmas.Bool.{cases_eq}
+use Rattle.std.proofs.Common.{◌≡◌, ◌≢◌, ℕ, ◌+◌, ◌-◌, ◌<◌, ◌≤◌, List, get_or, set, map, Option, Some, None, nat_le, ◌==◌, if◌then◌else◌, Bool, true, false, refl, sym, ap, ◌∙◌, subst, arith}
+use Rattle.std.proofs.lemmas.List.{length-map, get_or-map}
 use Rattle.hg_base.specs.Edges.{IsIn}
 use Rattle.node_region.specs.declared.cell.Cell.{Cell}
 use Rattle.node_region.specs.declared.cell.Hint.{Hint}
-use Rattle.node_region.specs.declared.chunk.State.{State}
-use Rattle.node_region.specs.declared.chunk.State.TheVariants.{Used, Free}
+use Rattle.node_region.specs.declared.chunk.State.TheVariants.{Used}
 use Rattle.node_region.specs.declared.chunk.Slot.{Slot}
 use Rattle.node_region.specs.declared.chunk.Place.{Place}
 use Rattle.node_region.specs.declared.chunk.FreeList.{FreeList}
 use Rattle.node_region.specs.declared.tables.Tables.{Tables}
 use Rattle.node_region.specs.declared.region.Region.TheInside.{Inside}
-use Rattle.node_region.specs.Pool.{CellPool, IsPool, IsCovered, IsUsed, AreDifferent, cell_at, turn_of, hint_of, leaf_of, finger_of, hinted_cell, with_cell, with_taken, with_given_back, with_leaf, with_hint, with_finger, next_turn}
-use Rattle.node_region.specs.Tables.{slots_of, places_of, cells_in, links_in, cell_of, link_of, next_of, thread, told_after, free_in, IsTail}
+use Rattle.node_region.specs.Pool.{CellPool, IsPool, IsCovered, IsUsed, cell_at, turn_of, hint_of, leaf_of, finger_of, hinted_cell, with_cell, with_leaf, with_hint, with_finger}
+use Rattle.node_region.specs.Tables.{slots_of, places_of, cells_in, cell_of, link_of, thread, told_after, free_in, IsTail}
 use Rattle.node_region.specs.Kept.{KeepsTables}
 use Rattle.node_region.specs.RegionFields.{pool_of, IsRegion}
-use Rattle.node_region.proofs.Threads.{thread-kept, told-same, thread-longer}
-use Rattle.node_region.proofs.Entries.{entry-read, next-set_same}
-use Rattle.node_region.proofs.Slots.{IsEntry, field-written, field-kept, others-tell_same, free-kept, tail-kept}
+use Rattle.node_region.proofs.Entries.{entry-read}
+use Rattle.node_region.proofs.Slots.{IsEntry, field-written, field-kept, free-kept, tail-kept}
 use Rattle.node_region.proofs.Pools.{pool-same}
-use Rattle.node_region.proofs.PoolLaws.{used-covered, used-not_free, with_cell-pool, with_taken-pool, with_given_back-pool, with_leaf-pool, with_hint-pool, with_finger-pool}
+use Rattle.node_region.proofs.PoolLaws.{used-not_free, with_cell-pool, with_leaf-pool, with_hint-pool, with_finger-pool}
 
 -- a number of the range, as the tables count them
 pub covered-within : (r : Inside) (id : ℕ) → IsCovered (pool_of r) id → (r.tables.first ≤ id) × (id < r.tables.first + r.tables.count)
@@ -103,12 +100,12 @@ cell-seen r h t n id s y w c used state turn hint =
     let first = r.tables.first in
     let slots = slots_of r.tables.chunks.items in
     slot-seen r h t n id s y w r.free _ _ _ _
-        (field-written (λ x. cell_of x.state) first slots n id s y w.entry ∙ ap (λ o. set (cells_in slots) (id - first) (cell_of o)) state)
-        (free-kept first slots n id s y w.entry r.free (free-apart r h id used))
-        (field-kept (λ x. x.turn) first slots n id s y w.entry turn)
-        (field-kept (λ x. x.hint) first slots n id s y w.entry hint)
-        (with_cell-pool (pool_of r) h.pool id used c)
-        (tail-kept first slots n id s y w.entry r.free (free-apart r h id used) h.tail)
+    (field-written (λ x. cell_of x.state) first slots n id s y w.entry ∙ ap (λ o. set (cells_in slots) (id - first) (cell_of o)) state)
+    (free-kept first slots n id s y w.entry r.free (free-apart r h id used))
+    (field-kept (λ x. x.turn) first slots n id s y w.entry turn)
+    (field-kept (λ x. x.hint) first slots n id s y w.entry hint)
+    (with_cell-pool (pool_of r) h.pool id used c)
+    (tail-kept first slots n id s y w.entry r.free (free-apart r h id used) h.tail)
 
 -- something else is noted at a number
 pub hint-seen : (r : Inside) → IsRegion r → (t : Tables) (n id : ℕ) (s y : Slot) → SlotWritten r t n id s y → (hint : Option Hint)
@@ -118,12 +115,12 @@ hint-seen r h t n id s y w hint state turn noted =
     let slots = slots_of r.tables.chunks.items in
     let links = field-kept (λ x. link_of x.state) first slots n id s y w.entry (ap link_of state) in
     slot-seen r h t n id s y w r.free _ _ _ _
-        (field-kept (λ x. cell_of x.state) first slots n id s y w.entry (ap cell_of state))
-        (ap (λ l. thread first l r.free.count r.free.head) links)
-        (field-kept (λ x. x.turn) first slots n id s y w.entry turn)
-        (field-written (λ x. x.hint) first slots n id s y w.entry ∙ ap (λ o. set (map (λ x. x.hint) slots) (id - first) o) noted)
-        (with_hint-pool (pool_of r) h.pool id hint)
-        (λ k more. ap (λ l. told_after first l k r.free.head) links ∙ h.tail k more)
+    (field-kept (λ x. cell_of x.state) first slots n id s y w.entry (ap cell_of state))
+    (ap (λ l. thread first l r.free.count r.free.head) links)
+    (field-kept (λ x. x.turn) first slots n id s y w.entry turn)
+    (field-written (λ x. x.hint) first slots n id s y w.entry ∙ ap (λ o. set (map (λ x. x.hint) slots) (id - first) o) noted)
+    (with_hint-pool (pool_of r) h.pool id hint)
+    (λ k more. ap (λ l. told_after first l k r.free.head) links ∙ h.tail k more)
 
 place-seen : (r : Inside) → IsRegion r → (t : Tables) (n place : ℕ) (p y : Place) → PlaceWritten r t n place p y → (leafs : List (Option ℕ)) (fingers : List (Option Hint))
     → map (λ x. x.leaf) (set (places_of r.tables.chunks.items) n y) ≡ leafs → map (λ x. x.finger) (set (places_of r.tables.chunks.items) n y) ≡ fingers
@@ -150,9 +147,9 @@ leaf-seen r h t n place p y w up leaf finger =
     let first = r.tables.first in
     let places = places_of r.tables.chunks.items in
     place-seen r h t n place p y w _ _
-        (field-written (λ x. x.leaf) first places n place p y w.entry ∙ ap (λ o. set (map (λ x. x.leaf) places) (place - first) o) leaf)
-        (field-kept (λ x. x.finger) first places n place p y w.entry finger)
-        (with_leaf-pool (pool_of r) h.pool place up)
+    (field-written (λ x. x.leaf) first places n place p y w.entry ∙ ap (λ o. set (map (λ x. x.leaf) places) (place - first) o) leaf)
+    (field-kept (λ x. x.finger) first places n place p y w.entry finger)
+    (with_leaf-pool (pool_of r) h.pool place up)
 
 -- something else is noted at a place
 pub finger-seen : (r : Inside) → IsRegion r → (t : Tables) (n place : ℕ) (p y : Place) → PlaceWritten r t n place p y → (noted : Option Hint)
@@ -161,9 +158,9 @@ finger-seen r h t n place p y w noted leaf finger =
     let first = r.tables.first in
     let places = places_of r.tables.chunks.items in
     place-seen r h t n place p y w _ _
-        (field-kept (λ x. x.leaf) first places n place p y w.entry leaf)
-        (field-written (λ x. x.finger) first places n place p y w.entry ∙ ap (λ o. set (map (λ x. x.finger) places) (place - first) o) finger)
-        (with_finger-pool (pool_of r) h.pool place noted)
+    (field-kept (λ x. x.leaf) first places n place p y w.entry leaf)
+    (field-written (λ x. x.finger) first places n place p y w.entry ∙ ap (λ o. set (map (λ x. x.finger) places) (place - first) o) finger)
+    (with_finger-pool (pool_of r) h.pool place noted)
 
 -- a hint of a number without a cell, or of another turn, means nothing
 pub hinted-none : (p : CellPool) (hint : Hint) → cell_at p hint.cell ≡ None → hinted_cell p hint ≡ None

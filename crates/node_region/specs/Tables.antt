@@ -1,5 +1,5 @@
 -- The tables of a region: one after another they have an entry for each number and for each place.
-use Rattle.std.specs.Prelude.{◌≡◌, ℕ, zero, suc, ◌+◌, ◌-◌, ◌<◌, List, [], ◌∷◌, length, map, take, get_or, Option, Some, None, slice_get}
+use Rattle.std.specs.Prelude.{◌≡◌, ℕ, zero, suc, ◌+◌, ◌-◌, ◌<◌, List, [], ◌∷◌, length, map, take, get_or, Option, Some, None}
 use Rattle.std.specs.List.{flat_map, range_with_len}
 use Rattle.std.specs.Coded.{×_prop, Unit-prop, Coded-set, coded_ℕ}
 use Rattle.node_region.specs.declared.cell.Cell.{Cell}

@@ -5,7 +5,7 @@ use crate::cell::{Cell, Hint};
 use crate::chunk::{FreeList, Place, Slot, State};
 use crate::tables::Tables;
 use hg_base::{OutOfMemory, Room};
-use std::alloc::Global;
+use std::alloc::{AllocError, Global};
 use std::marker::Model;
 
 /// A pool of cells. Places and cells have the same numbers, a range. Each place may have the number of a cell above
@@ -48,7 +48,18 @@ impl Region {
         requires few_chunks { room.chunks ≤ 65536 }
         ensures { IfOk result (λ region. region ≡ fresh_pool first count room) }
     {
-        let tables = Tables::of_one(alloc, first, count, room.chunks).map_err(|_| OutOfMemory)?;
+        Region::fresh(alloc, first, count, room).map_err(|_| OutOfMemory)
+    }
+
+    fn fresh(alloc: Global, first: u32, count: u32, room: Room) -> Result<Region, AllocError>
+        requires some_number { 1 ≤ count }
+        requires few_numbers { count ≤ room.places }
+        requires range { first + room.places ≤ 1048576 }
+        requires some_chunk { 1 ≤ room.chunks }
+        requires few_chunks { room.chunks ≤ 65536 }
+        ensures { IfOk result (λ region. region ≡ fresh_pool first count room) }
+    {
+        let tables = Tables::of_one(alloc, first, count, room.chunks)?;
         Ok(Region {
             room,
             free: FreeList {
@@ -268,3 +279,6 @@ fn put_in_front(free: FreeList, id: u32) -> FreeList
         tail,
     }
 }
+
+#[cfg(test)]
+mod tests;

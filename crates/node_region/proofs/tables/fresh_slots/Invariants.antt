@@ -1,4 +1,4 @@
-use Rattle.std.proofs.Common.{◌≡◌, ◌-◌, map}
+use Rattle.std.proofs.Common.{◌≡◌, ◌-◌}
 use Rattle.node_region.specs.Tables.{fresh_slots}
 use Rattle.node_region.proofs.tables.fresh_slots.Given as goal
 

@@ -1,5 +1,4 @@
-use Rattle.std.proofs.Common.{◌≡◌, Bool, true, false, None, Some, ◌∙◌, sym, ap, arith}
-use Rattle.std.proofs.lemmas.Grind.{common_steps}
+use Rattle.std.proofs.Common.{◌≡◌, true, false, ◌∙◌, sym, ap, arith}
 use Rattle.std.proofs.lemmas.List.{length-map}
 use Rattle.node_region.specs.Tables.{cell_of, slots_of, cells_in}
 use Rattle.node_region.proofs.Views.{cell-read, turn-read, hinted-none, hinted-other, hinted-same}
@@ -11,11 +10,11 @@ pub returns-then-not-covers : goal.returns-then-not-covers
 returns-then-not-covers c =
     let slots = slots_of c.self.inside.tables.chunks.items in
     rw (← c.self.view_is) (sym (hinted-none (pool_of c.self.inside) c.args.hint (entry-outside c.self.inside.tables.first (cells_in slots) c.args.hint.cell
-        (λ low high.
-            let long = length-map slots (λ s. cell_of s.state) in
-            let yes : c.covers.result ≡ true = c.covers.ensures.1 (low, omega (arith, high, long, c.self.inside.tables.counted)) in
-            let no : false ≡ true = sym c.if-not-covers.true ∙ yes in
-            cc))))
+    (λ low high.
+    let long = length-map slots (λ s. cell_of s.state) in
+    let yes : c.covers.result ≡ true = c.covers.ensures.1 (low, omega (arith, high, long, c.self.inside.tables.counted)) in
+    let no : false ≡ true = sym c.if-not-covers.true ∙ yes in
+    cc))))
 
 pub locate-requires-clause-from : goal.locate-requires-clause-from
 locate-requires-clause-from c = (c.covers.ensures.0 c.if-not-covers.false).0

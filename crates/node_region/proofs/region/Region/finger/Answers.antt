@@ -1,4 +1,4 @@
-use Rattle.std.proofs.Common.{sym, arith}
+use Rattle.std.proofs.Common.{sym}
 use Rattle.node_region.proofs.Views.{finger-read}
 use Rattle.node_region.proofs.region.Region.finger.Goals as goal
 

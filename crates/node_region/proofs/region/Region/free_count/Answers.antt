@@ -1,4 +1,4 @@
-use Rattle.std.proofs.Common.{sym, arith}
+use Rattle.std.proofs.Common.{sym}
 use Rattle.node_region.specs.Tables.{links_in, slots_of}
 use Rattle.node_region.proofs.Threads.{thread-length}
 use Rattle.node_region.proofs.region.Region.free_count.Goals as goal

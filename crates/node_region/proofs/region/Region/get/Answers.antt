@@ -1,6 +1,5 @@
-use Rattle.std.proofs.Common.{◌≡◌, None, ◌∙◌, sym, ap, subst, arith}
+use Rattle.std.proofs.Common.{◌∙◌, ap}
 use Rattle.node_region.specs.Tables.{cell_of}
-use Rattle.node_region.specs.Pool.{cell_at}
 use Rattle.node_region.proofs.Views.{cell-read}
 use Rattle.node_region.proofs.PoolLaws.{used-none}
 use Rattle.node_region.proofs.region.Region.get.Goals as goal

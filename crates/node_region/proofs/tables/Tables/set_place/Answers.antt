@@ -1,5 +1,4 @@
-use Rattle.std.proofs.Common.{◌≡◌, refl, sym, ap, ◌∙◌, length, arith}
-use Rattle.node_region.specs.Tables.{slots_of, number_at}
+use Rattle.std.proofs.Common.{refl, sym, ap, ◌∙◌, length, arith}
 use Rattle.std.proofs.lemmas.List.{length-set}
 use Rattle.node_region.specs.declared.chunk.Chunk.{Chunk}
 use Rattle.node_region.proofs.Rows.{place-written, place-inside, row-written, flat_map-set_same}
@@ -20,7 +19,7 @@ pub invariant_of-self-clause-in_row : goal.invariant_of-self-clause-in_row
 invariant_of-self-clause-in_row c =
     let k = c.args.at.chunk in
     row-written c.args.self.now.first c.args.self.now.chunks.items c.args.self.now.in_row k c.index_mut-chunk.result.now _ c.index_mut-chunk.ensures.value refl
-        refl (length-set c.index_mut-chunk.result.now.places.items c.args.at.index c.args.place)
+    refl (length-set c.index_mut-chunk.result.now.places.items c.args.at.index c.args.place)
 
 pub invariant_of-self-clause-counted : goal.invariant_of-self-clause-counted
 invariant_of-self-clause-counted c =

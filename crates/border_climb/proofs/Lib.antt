@@ -11,3 +11,4 @@ pub mod Opens
 pub mod Splices
 pub mod Parts
 pub mod Lots
+pub mod Uniting

@@ -1,4 +1,8 @@
 -- Edges that are given one after another.
+use Rattle.std.proofs.lemmas.List.{take_more, append-nil}
+use Rattle.border_climb.specs.Parts.{KeepsPart}
+use Rattle.border_climb.proofs.Writes.{range-on}
+use Rattle.border_climb.proofs.Parts.{covered-on}
 use Rattle.std.proofs.Common.{◌≡◌, ◌≢◌, ℕ, zero, suc, ◌+◌, ◌-◌, ◌<◌, ◌≤◌, ◌⊎◌, inl, inr, refl, sym, ◌∙◌, subst, ap, arith, List, [], ◌∷◌, ◌++◌, length, map, take, drop, get_or, append_assoc, length-append}
 use Rattle.hg_base.specs.Edges.{ListedEdge, EdgeList, IsIn, IsSameSet, AreApart}
 use Rattle.hg_base.specs.Placed.{placed, ranks}
@@ -44,6 +48,7 @@ stands-last part f s st =
 
 -- edges of two lists that have different ranks together
 apart-across : (s r : EdgeList) → AreApart (s ++ r) → (g h : ListedEdge) → IsIn g s → IsIn h r → g.rank ≢ h.rank
+apart-across [] r a g h none j eq = none
 apart-across (e ∷ s) r a g h (inl same) j eq = a.0 h (IsIn-append h s r (inr j)) (ap (λ (x : ListedEdge). x.rank) same ∙ eq)
 apart-across (e ∷ s) r a g h (inr i) j eq = apart-across s r a.1 g h i j eq
 
@@ -53,6 +58,7 @@ apart-behind (e ∷ s) r a = apart-behind s r a.1
 
 -- what is in a list is so under a map
 IsIn-map : {X Y : Type 0} (f : X → Y) (x : X) (xs : List X) → IsIn x xs → IsIn (f x) (map f xs)
+IsIn-map f x [] none = none
 IsIn-map f x (y ∷ ys) (inl same) = inl (ap f same)
 IsIn-map f x (y ∷ ys) (inr later) = inr (IsIn-map f x ys later)
 
@@ -113,13 +119,13 @@ longer [] e (h ∷ k ∷ t) eq = absurd (never (tail eq))
     never q = cc
 longer (x ∷ xs) e (h ∷ t) eq =
     let w = longer xs e t (tail eq) in
-    record { front = h ∷ w.front; last = w.last; is = ap (λ (l : EdgeList). h ∷ l) w.is; front_is = both eq w.front_is; last_is = w.last_is }
+    record { front = h ∷ w.front; last = w.last; is = ap (λ (l : EdgeList). h ∷ l) w.is; front_is = both w.front eq w.front_is; last_is = w.last_is }
   where
     tail : placed h ∷ map placed t ≡ x ∷ (xs ++ (e ∷ [])) → map placed t ≡ xs ++ (e ∷ [])
     tail q = cc
 
-    both : {f : EdgeList} → placed h ∷ map placed t ≡ x ∷ (xs ++ (e ∷ [])) → map placed f ≡ xs → placed h ∷ map placed f ≡ x ∷ xs
-    both {f} q r = cc
+    both : (f : EdgeList) → placed h ∷ map placed t ≡ x ∷ (xs ++ (e ∷ [])) → map placed f ≡ xs → placed h ∷ map placed f ≡ x ∷ xs
+    both f q r = cc
 
 -- One more edge: what the part stands for then.
 pub stands-more : (old new : PartState) (s : EdgeList) (xs : List PlacedEdge) (e : PlacedEdge) → ((t : EdgeList) → map placed t ≡ xs → Stands old (s ++ t)) → ((t : EdgeList) → map placed t ≡ xs → IsNewRank e.rank (s ++ t)) →
@@ -133,3 +139,54 @@ stands-more old new s xs e before fresh given t eq =
 pub listed-placed : (xs : List PlacedEdge) → map placed (map listed xs) ≡ xs
 listed-placed [] = refl
 listed-placed (x ∷ xs) = ap (λ (l : List PlacedEdge). x ∷ l) (listed-placed xs)
+
+-- a list around its i-th element
+pub around : (xs : List PlacedEdge) (i : ℕ) (d : PlacedEdge) → i < length xs → xs ≡ take i xs ++ (get_or xs i d ∷ drop (suc i) xs)
+around [] i d lt = absurd (omega arith)
+around (x ∷ xs) zero d lt = refl
+around (x ∷ xs) (suc i) d lt = ap (λ (l : List PlacedEdge). x ∷ l) (around xs i d (omega arith))
+
+-- the first i edges of a list were given
+pub record AreGiven (old new : PartState) (edges : List PlacedEdge) (i : ℕ) : Type 0 where
+  pub stands : (s t : EdgeList) → CanTake old edges s → map placed t ≡ take i edges → Stands new (s ++ t)
+  pub kept : KeepsPart old new
+
+pub given-none : (old : PartState) (edges : List PlacedEdge) → AreGiven old old edges 0
+given-none old edges = record {
+  stands = λ s t m eq. subst (λ (l : EdgeList). Stands old (s ++ l)) (sym (empty t eq)) (subst (λ (l : EdgeList). Stands old l) (sym (append-nil s)) m.stands);
+  kept = record { range = record { first = refl; count = refl; chunks = refl; room = refl }; lots = refl };
+}
+  where
+    empty : (t : EdgeList) → map placed t ≡ [] → t ≡ []
+    empty [] eq = refl
+    empty (h ∷ t) eq = absurd (never eq)
+      where
+        never : placed h ∷ map placed t ≡ [] → ⊥
+        never q = cc
+
+pub given-more : (old mid new : PartState) (edges : List PlacedEdge) (i : ℕ) (e : PlacedEdge) → i < length edges → e ≡ get_or edges i e → AreGiven old mid edges i →
+    ((f : ListedEdge) (u : EdgeList) → placed f ≡ e → Stands mid u → IsNewRank e.rank u → Stands new (f ∷ u)) → KeepsPart mid new → AreGiven old new edges (i + 1)
+given-more old mid new edges i e lt at m given kept = record {
+  stands = λ s t can eq. stands-more mid new s (take i edges) e (λ u is. m.stands s u can is)
+      (λ u is. new-next old edges s can (take i edges) e (drop (suc i) edges) (around edges i e lt ∙ ap (λ (x : PlacedEdge). take i edges ++ (x ∷ drop (suc i) edges)) (sym at)) u is)
+      given t (eq ∙ take_more edges i e lt ∙ ap (λ (x : PlacedEdge). take i edges ++ (x ∷ [])) (sym at));
+  kept = record { range = range-on old.region mid.region new.region m.kept.range kept.range; lots = kept.lots ∙ m.kept.lots };
+}
+
+-- what the next edge needs
+pub given-next : (old mid : PartState) (edges : List PlacedEdge) (i : ℕ) (e : PlacedEdge) → i < length edges → e ≡ get_or edges i e → AreGiven old mid edges i → (s : EdgeList) → CanTake old edges s →
+    (IsCovered mid.region e.a × IsCovered mid.region e.b) × ((e.a ≢ e.b) × ((u : EdgeList) × (Stands mid u × IsNewRank e.rank u)))
+given-next old mid edges i e lt at m s can =
+    let there : edges ≡ take i edges ++ (e ∷ drop (suc i) edges) = around edges i e lt ∙ ap (λ (x : PlacedEdge). take i edges ++ (x ∷ drop (suc i) edges)) (sym at) in
+    let inside : IsIn e edges = subst (λ (l : List PlacedEdge). IsIn e l) (sym there) (IsIn-append e (take i edges) (e ∷ drop (suc i) edges) (inr (inl refl))) in
+    ((covered-on old.region mid.region m.kept.range e.a (can.a e inside), covered-on old.region mid.region m.kept.range e.b (can.b e inside)),
+    (can.two e inside,
+    (s ++ map listed (take i edges), (m.stands s (map listed (take i edges)) can (listed-placed (take i edges)),
+    new-next old edges s can (take i edges) e (drop (suc i) edges) there (map listed (take i edges)) (listed-placed (take i edges))))))
+
+-- the lots have no say in what a part stands for
+pub stands-noted : (p q : PartState) (s : EdgeList) (lots : List ℕ) → q ≡ record p { lots = lots } → Stands p s → Stands q s
+stands-noted p q s lots eq st = subst (λ (w : PartState). Stands w s) (sym eq) (record {
+  first_ends = st.first_ends; second_ends = st.second_ends; two_ends = st.two_ends; apart = st.apart; small = st.small;
+  traces = st.traces; met = st.met; alone = st.alone; given = st.given;
+})

@@ -67,3 +67,9 @@ pub record CanTake (part : PartState) (edges : List PlacedEdge) (s : EdgeList) :
   pub b : (e : PlacedEdge) → IsIn e edges → IsCovered part.region e.b
   pub two : (e : PlacedEdge) → IsIn e edges → e.a ≢ e.b
   pub apart : AreApart (s ++ map listed edges)
+
+-- The parts stand for s and r, which together have different ranks.
+pub record AreUnited (left right : PartState) (s r : EdgeList) : Type 0 where
+  pub left_stands : Stands left s
+  pub right_stands : Stands right r
+  pub apart : AreApart (s ++ r)

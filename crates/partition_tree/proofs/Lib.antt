@@ -6,6 +6,7 @@ pub mod ForestClimbs
 pub mod TreeLemmas
 pub mod CellLemmas
 pub mod NumberingLaws
+pub mod PlacedTree
 pub mod ListLemmas
 pub mod ListTree
 pub mod TestLemmas

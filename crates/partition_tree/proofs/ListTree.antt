@@ -9,7 +9,9 @@ use Rattle.border_climb.specs.Stands.{PartState, Stands}
 use Rattle.partition_tree.specs.declared.list.Ranked.{Ranked}
 use Rattle.partition_tree.specs.Forest.{IsForest, lists_of}
 use Rattle.partition_tree.specs.Ranked.{IsRankedList, edge_at, edges_of, first_edges}
-use Rattle.partition_tree.specs.Numbering.{AreCells, AreByRank, in_rank, AreNumbers, node_above, inner_parent, link_of, rank_at}
+use Rattle.border_climb.specs.Parts.{above_cell}
+use Rattle.border_climb.specs.Splicing.{rank_of}
+use Rattle.partition_tree.specs.Numbering.{AreCells, AreByRank, in_rank, AreNumbers, node_above, inner_parent}
 use Rattle.partition_tree.proofs.CellLemmas.{used-cell, link-is, cell-used, in_rank-few}
 use Rattle.partition_tree.proofs.TreeLemmas.{tree-forest}
 use Rattle.partition_tree.proofs.NumberingLaws.{Stands-same, Stands-cells, IsNumbering, numbering-of, leaf-parents, inner-parents, inner-values}
@@ -34,7 +36,7 @@ given-few part list made g c =
     let f = in_rank-few c.0 (length list) in let e : length made ≡ length (in_rank c.0 (length list)) = ap (λ (l : List ℕ). length l) c.1.1 in let s : length list ≤ 4194304 = g.list_of.small in omega (arith, f, e, s)
 
 -- links of cells lead to cells
-pub cells-links : (part : PartState) (edges : ℕ) → AreCells part edges → (i j : ℕ) → IsUsed part.region i → link_of part.region i ≡ Some j → IsUsed part.region j
+pub cells-links : (part : PartState) (edges : ℕ) → AreCells part edges → (i j : ℕ) → IsUsed part.region i → above_cell part.region i ≡ Some j → IsUsed part.region j
 cells-links part edges a i j used link =
     let w = used-cell part.region i used in
     let b = a.ups i j w.0 w.1 (sym (link-is part.region i w.0 w.1) ∙ link) in
@@ -45,8 +47,8 @@ pub record AreMade (part : PartState) (list : List Ranked) (made numbers parents
   pub noted_in : (cells : List (Option ℕ)) × (AreByRank part.region cells × (made ≡ in_rank cells (length list)))
   pub numbers_of : AreNumbers (count part.region) made numbers
   pub parents_are : parents ≡ map (λ v. node_above numbers v (leaf_of part.region v)) (range_with_len 0 (count part.region)) ++ map (inner_parent (count part.region) part.region made numbers) (range_with_len 0 (length made))
-  pub altitudes_are : altitudes ≡ replicate (count part.region) 0 ++ map (λ i. (edge_at list (rank_at part.region (get_or made i 0))).weight) (range_with_len 0 (length made))
-  pub makers_are : makers ≡ map (λ i. (edge_at list (rank_at part.region (get_or made i 0))).number) (range_with_len 0 (length made))
+  pub altitudes_are : altitudes ≡ replicate (count part.region) 0 ++ map (λ i. (edge_at list (rank_of part.region (get_or made i 0))).weight) (range_with_len 0 (length made))
+  pub makers_are : makers ≡ map (λ i. (edge_at list (rank_of part.region (get_or made i 0))).number) (range_with_len 0 (length made))
 
 -- are those of the list's tree
 pub made-tree : (part : PartState) (list : List Ranked) (n : ℕ) (made numbers parents altitudes makers : List ℕ) → IsGiven part list → n ≡ count part.region →
@@ -80,8 +82,8 @@ pub record AreWritten (part : PartState) (list : List Ranked) (made numbers leaf
   pub len_is : len ≡ length made
   pub leafs_are : leafs ≡ map (λ v. node_above numbers v (leaf_of part.region v)) (range_with_len 0 (count part.region))
   pub parents_are : parents ≡ leafs ++ map (inner_parent (count part.region) part.region made numbers) (range_with_len 0 len)
-  pub altitudes_are : altitudes ≡ replicate (count part.region) 0 ++ map (λ i. (edge_at list (rank_at part.region (get_or first_read i 0))).weight) (range_with_len 0 (length first_read))
-  pub makers_are : makers ≡ map (λ i. (edge_at list (rank_at part.region (get_or second_read i 0))).number) (range_with_len 0 (length second_read))
+  pub altitudes_are : altitudes ≡ replicate (count part.region) 0 ++ map (λ i. (edge_at list (rank_of part.region (get_or first_read i 0))).weight) (range_with_len 0 (length first_read))
+  pub makers_are : makers ≡ map (λ i. (edge_at list (rank_of part.region (get_or second_read i 0))).number) (range_with_len 0 (length second_read))
 
 pub written-tree : (part : PartState) (list : List Ranked) (n : ℕ) (made numbers leafs parents altitudes makers first_read second_read : List ℕ) (len : ℕ) → IsGiven part list → n ≡ count part.region →
     AreWritten part list made numbers leafs parents altitudes makers first_read second_read len → lists_of n parents altitudes makers ≡ tree_of (count part.region) (edges_of list)
@@ -92,8 +94,8 @@ written-tree part list n made numbers leafs parents altitudes makers first_read 
       parents_are = w.parents_are
       ∙ ap (λ (l : List ℕ). l ++ map (inner_parent (count part.region) part.region made numbers) (range_with_len 0 len)) w.leafs_are
       ∙ ap (λ (k : ℕ). map (λ v. node_above numbers v (leaf_of part.region v)) (range_with_len 0 (count part.region)) ++ map (inner_parent (count part.region) part.region made numbers) (range_with_len 0 k)) w.len_is;
-      altitudes_are = subst (λ (l : List ℕ). altitudes ≡ replicate (count part.region) 0 ++ map (λ i. (edge_at list (rank_at part.region (get_or l i 0))).weight) (range_with_len 0 (length l))) w.first_is w.altitudes_are;
-      makers_are = subst (λ (l : List ℕ). makers ≡ map (λ i. (edge_at list (rank_at part.region (get_or l i 0))).number) (range_with_len 0 (length l))) w.second_is w.makers_are;
+      altitudes_are = subst (λ (l : List ℕ). altitudes ≡ replicate (count part.region) 0 ++ map (λ i. (edge_at list (rank_of part.region (get_or l i 0))).weight) (range_with_len 0 (length l))) w.first_is w.altitudes_are;
+      makers_are = subst (λ (l : List ℕ). makers ≡ map (λ i. (edge_at list (rank_of part.region (get_or l i 0))).number) (range_with_len 0 (length l))) w.second_is w.makers_are;
     })
 
 -- a forest

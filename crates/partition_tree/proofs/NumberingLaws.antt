@@ -19,7 +19,9 @@ use Rattle.node_region.specs.declared.cell.Cell.{Cell}
 use Rattle.border_climb.specs.Stands.{PartState, IsClimb, IsTrace, Stands}
 use Rattle.border_climb.specs.Linked.{HasRank, Points, IsCellOf, AreLinked}
 use Rattle.border_climb.proofs.Linked.{linked-Stands, own-chain}
-use Rattle.partition_tree.specs.Numbering.{link_of, rank_at, AreCells, noted, AreByRank, or_none, in_rank, AreNumbers, node_above, inner_parent, placed_tree}
+use Rattle.border_climb.specs.Parts.{above_cell}
+use Rattle.border_climb.specs.Splicing.{rank_of}
+use Rattle.partition_tree.specs.Numbering.{AreCells, noted, AreByRank, or_none, in_rank, AreNumbers, node_above, inner_parent, placed_tree}
 use Rattle.partition_tree.proofs.CellLemmas.{cell-used, rank-is, link-is, cell-one}
 
 -- a link that leads somewhere leads to a cell of what comes next
@@ -195,7 +197,7 @@ inner-parents part s n made numbers w =
         let q = (linked-Stands part s w.stands).cells (get_or made i 0) h.cell h.is in
         let own : q.edge ≡ e = apart-one s w.stands.apart q.edge e (IsIn-joins_kept s q.edge q.joins).0 (IsIn-joins_kept s e at.0).0 (sym q.rank ∙ h.has) in
         let up : Points part.region h.cell.up (next s e.u (suc e.rank)) = subst (λ (x : ListedEdge). Points part.region h.cell.up (next s x.u (suc x.rank))) own q.up in
-        let link : link_of part.region (get_or made i 0) ≡ h.cell.up = link-is part.region (get_or made i 0) h.cell h.is in
+        let link : above_cell part.region (get_or made i 0) ≡ h.cell.up = link-is part.region (get_or made i 0) h.cell h.is in
         let index : 0 + i ≡ i = omega arith in
         let number : n + i ≡ n + place s e = (let p : place s e ≡ i = at.1 in omega arith) in
         ap (inner_parent n part.region made numbers) index
@@ -205,17 +207,17 @@ inner-parents part s n made numbers w =
 
 -- a value that the rank tells, for each inner node
 pub inner-values : (part : PartState) (s : EdgeList) (n : ℕ) (made numbers : List ℕ) → IsNumbering part s n made numbers → (f : ℕ → ℕ) (g : ListedEdge → ℕ) →
-    ((e : ListedEdge) → IsIn e s → f e.rank ≡ g e) → map (λ i. f (rank_at part.region (get_or made i 0))) (range_with_len 0 (length made)) ≡ map g (joins s)
+    ((e : ListedEdge) → IsIn e s → f e.rank ≡ g e) → map (λ i. f (rank_of part.region (get_or made i 0))) (range_with_len 0 (length made)) ≡ map g (joins s)
 inner-values part s n made numbers w f g tells =
-    ap (λ (k : ℕ). map (λ i. f (rank_at part.region (get_or made i 0))) (range_with_len 0 k)) (of-length part.region made (joins s) w.made_of)
-    ∙ range-list (λ i. f (rank_at part.region (get_or made i 0))) g 0 (joins s) (λ i e eq. one i e eq)
+    ap (λ (k : ℕ). map (λ i. f (rank_of part.region (get_or made i 0))) (range_with_len 0 k)) (of-length part.region made (joins s) w.made_of)
+    ∙ range-list (λ i. f (rank_of part.region (get_or made i 0))) g 0 (joins s) (λ i e eq. one i e eq)
   where
-    one : (i : ℕ) (e : ListedEdge) → slice_get (joins s) i ≡ Some e → f (rank_at part.region (get_or made (0 + i) 0)) ≡ g e
+    one : (i : ℕ) (e : ListedEdge) → slice_get (joins s) i ≡ Some e → f (rank_of part.region (get_or made (0 + i) 0)) ≡ g e
     one i e eq =
         let at = joins-index s w.stands.apart i e eq in
         let h = of-at part.region made (joins s) w.made_of i e eq in
         let index : 0 + i ≡ i = omega arith in
-        ap (λ (k : ℕ). f (rank_at part.region (get_or made k 0))) index
+        ap (λ (k : ℕ). f (rank_of part.region (get_or made k 0))) index
         ∙ ap f (rank-is part.region (get_or made i 0) h.cell h.is ∙ h.has)
         ∙ tells e (IsIn-joins_kept s e at.0).0
 

@@ -4,7 +4,8 @@ ghost use Rattle.hg_base.specs.Tree.{tree_of, IsFrontTree};
 ghost use Rattle.node_region.specs.Pool.{IsUsed, count, leaf_of};
 ghost use Rattle.border_climb.specs.Stands.{Stands};
 ghost use Rattle.partition_tree.specs.Ranked.{IsRankedList, edge_at, edges_of, first_edges};
-ghost use Rattle.partition_tree.specs.Numbering.{AreCells, AreMakers, node_above, rank_at};
+ghost use Rattle.border_climb.specs.Splicing.{rank_of};
+ghost use Rattle.partition_tree.specs.Numbering.{AreCells, AreMakers, node_above};
 
 use crate::forest::Forest;
 use crate::numbering::{Numbering, node_or};
@@ -75,8 +76,8 @@ fn numbered(alloc: Global, part: &Part, list: &[Ranked]) -> Result<Tree, AllocEr
 fn edge_of(part: &Part, list: &[Ranked], cell: u32) -> Ranked
     requires cells { AreCells part.now (length list.now) }
     requires used { IsUsed part.now.region cell }
-    ensures altitude { result.altitude ≡ (edge_at list.now (rank_at part.now.region cell)).weight }
-    ensures number { result.edge ≡ (edge_at list.now (rank_at part.now.region cell)).number }
+    ensures altitude { result.altitude ≡ (edge_at list.now (rank_of part.now.region cell)).weight }
+    ensures number { result.edge ≡ (edge_at list.now (rank_of part.now.region cell)).number }
 {
     list[part.rank_of_cell(cell) as usize]
 }
@@ -111,7 +112,7 @@ fn altitudes(
     requires cells { AreCells part.now (length list.now) }
     requires made { AreMakers part.now.region made.now }
     requires few { length made.now ≤ 4194304 }
-    ensures { IfOk result (λ altitudes. altitudes.items ≡ replicate (count part.now.region) 0 ++ map (λ i. (edge_at list.now (rank_at part.now.region (slice_index made.now i))).weight) (range_with_len 0 (length made.now))) }
+    ensures { IfOk result (λ altitudes. altitudes.items ≡ replicate (count part.now.region) 0 ++ map (λ i. (edge_at list.now (rank_of part.now.region (slice_index made.now i))).weight) (range_with_len 0 (length made.now))) }
 {
     let n = part.count() as usize;
     let mut altitudes = Vec::with_capacity(alloc, n + made.len())?;
@@ -131,7 +132,7 @@ fn makers(
 ) -> Result<Vec<u32>, AllocError>
     requires cells { AreCells part.now (length list.now) }
     requires made { AreMakers part.now.region made.now }
-    ensures { IfOk result (λ makers. makers.items ≡ map (λ i. (edge_at list.now (rank_at part.now.region (slice_index made.now i))).number) (range_with_len 0 (length made.now))) }
+    ensures { IfOk result (λ makers. makers.items ≡ map (λ i. (edge_at list.now (rank_of part.now.region (slice_index made.now i))).number) (range_with_len 0 (length made.now))) }
 {
     let mut makers = Vec::with_capacity(alloc, made.len())?;
     for cell in made {

@@ -12,8 +12,8 @@ loop-rank-preserved c =
     let k : Stands c.give.new.self (first_edges c.args.list.now (suc c.loop-rank.rank)) = c.give.ensures.stands (edge_at c.args.list.now c.loop-rank.rank) (first_edges c.args.list.now c.loop-rank.rank) (placed-read c.args.list.now c.loop-rank.rank _ (omega arith)) c.loop-rank.invariant.stands (first-new c.args.list.now c.loop-rank.rank) in
     let next : suc c.loop-rank.rank ≡ c.loop-rank.rank + 1 = omega arith in
     record {
-      first = c.give.ensures.first ∙ c.loop-rank.invariant.first;
-      count = c.give.ensures.count ∙ c.loop-rank.invariant.count;
+      first = c.give.ensures.kept.range.first ∙ c.loop-rank.invariant.first;
+      count = c.give.ensures.kept.range.count ∙ c.loop-rank.invariant.count;
       stands = subst (λ r. Stands c.give.new.self (first_edges c.args.list.now r)) next k;
     }
 

@@ -26,13 +26,14 @@ abbrev pub AreHalves : MergeTree → Grid → Grid → Type 0
 AreHalves Tile a b = ⊥
 AreHalves (Merge by k x y) a b = IsTreeOf a x × IsTreeOf b y
 
--- the halves of a grid side by side, and one above the other
+-- the halves of a grid side by side
 pub record AreSideBySide (g a b : Grid) : Type 0 where
   pub first : a.columns ≡ half g.columns
   pub second : a.columns + b.columns ≡ g.columns
   pub first_rows : a.rows ≡ g.rows
   pub second_rows : b.rows ≡ g.rows
 
+-- the halves of a grid one above the other
 pub record AreStacked (g a b : Grid) : Type 0 where
   pub first : a.rows ≡ half g.rows
   pub second : a.rows + b.rows ≡ g.rows

@@ -1,8 +1,8 @@
 -- Two parts side by side.
-use Rattle.std.proofs.Common.{◌≡◌, ◌≢◌, ℕ, zero, suc, ◌+◌, ◌-◌, ◌^◌, ◌<◌, ◌≤◌, ◌⊎◌, inl, inr, refl, sym, ◌∙◌, subst, ap, arith, List, [], ◌∷◌, ◌++◌, length, get_or, length-append, nat_le, true, false}
+use Rattle.std.proofs.Common.{◌≡◌, ◌≢◌, ℕ, zero, suc, ◌+◌, ◌-◌, ◌^◌, ◌<◌, ◌≤◌, ◌⊎◌, inl, inr, refl, sym, ◌∙◌, subst, ap, arith, List, [], ◌∷◌, ◌++◌, length, map, get_or, length-append, nat_le, true, false}
 use Rattle.std.specs.Prelude.{Option, Some, None, IsSome, filter, nat_lt}
 use Rattle.std.proofs.lemmas.Bool.{cases_lt, cases_Bool, lt-ltb, le-ltb, le-leb, leb-true}
-use Rattle.std.proofs.lemmas.List.{get_or_append_left, get_or-append_right, get_or_past}
+use Rattle.std.proofs.lemmas.List.{length-map, get_or_append_left, get_or-append_right, get_or_past}
 use Rattle.hg_base.specs.Edges.{ListedEdge, EdgeList, IsIn, AreApart, joins, chain, first_edge, next}
 use Rattle.hg_base.specs.SideBySide.{SideBySide}
 use Rattle.hg_base.proofs.SideBySide.{chain-inside, chain-outside}
@@ -15,7 +15,11 @@ use Rattle.node_region.proofs.Entries.{entry-append_left, entry-append_right, en
 use Rattle.border_climb.specs.Stands.{PartState, IsMet, Stands}
 use Rattle.border_climb.specs.Linked.{HasRank, Points, IsCellOf, AreLinked, AreBetween}
 use Rattle.border_climb.specs.Notes.{IsLive, AreOld, IsSound}
-use Rattle.border_climb.specs.Parts.{AreUnited}
+use Rattle.hg_base.specs.declared.graph.PlacedEdge.{PlacedEdge}
+use Rattle.hg_base.proofs.SideBySide.{AreApart-front}
+use Rattle.border_climb.specs.Splicing.{KeepsRange}
+use Rattle.border_climb.specs.Parts.{AreUnited, CanJoin, CanTake, SumsUp, listed}
+use Rattle.border_climb.proofs.Parts.{few-edges}
 use Rattle.border_climb.proofs.Linked.{own-chain, Stands-linked, linked-Stands, between-Stands}
 use Rattle.border_climb.proofs.Merging.{points-kept}
 use Rattle.border_climb.proofs.Pools.{used-covered, used-cell, used-from}
@@ -339,3 +343,49 @@ stands-united left right whole s r pp pq next' m region given =
     covered : (x : ℕ) → IsCovered left.region x ⊎ IsCovered right.region x → IsCovered whole.region x
     covered x (inl a) = subst (λ (w : CellPool). IsCovered w x) (sym region) (cover-left left.region right.region x a)
     covered x (inr b) = subst (λ (w : CellPool). IsCovered w x) (sym region) (cover-right left.region right.region two x b)
+
+-- parts that can be joined stand side by side
+pub united-from : (left right : PartState) (border : List PlacedEdge) (s r : EdgeList) → CanJoin left right border s r → AreUnited left right s r
+united-from left right border s r m = record { left_stands = m.left_stands; right_stands = m.right_stands; apart = AreApart-front (s ++ r) (map listed border) m.apart }
+
+-- and together can take in the border
+pub border-taken : (left right mid : PartState) (border : List PlacedEdge) (s r : EdgeList) → IsPool left.region → IsPool right.region → IsNextTo left.region right.region → CanJoin left right border s r →
+    mid.region ≡ appended left.region right.region → Stands mid (s ++ r) → CanTake mid border (s ++ r)
+border-taken left right mid border s r pp pq next' m region st = record {
+  stands = st;
+  a = λ e i. subst (λ (w : CellPool). IsCovered w e.a) (sym region) (elim (m.crosses e i) [ inl c ↦ cover-left left.region right.region e.a c.0 | inr c ↦ cover-right left.region right.region two e.a c.1 ]);
+  b = λ e i. subst (λ (w : CellPool). IsCovered w e.b) (sym region) (elim (m.crosses e i) [ inl c ↦ cover-right left.region right.region two e.b c.1 | inr c ↦ cover-left left.region right.region e.b c.0 ]);
+  two = λ e i same. elim (m.crosses e i) [
+    | inl c ↦ no-both left.region right.region two e.b (subst (λ (x : ℕ). IsCovered left.region x) same c.0) c.1
+    | inr c ↦ no-both left.region right.region two e.b c.0 (subst (λ (x : ℕ). IsCovered right.region x) same c.1)
+  ];
+  apart = m.apart;
+}
+  where
+    two : AreTwo left.region right.region
+    two = record { left = pp; right = pq; next_to = next' }
+
+-- how many edges were given in all
+pub given-sum : (left right whole : PartState) (border : List PlacedEdge) (s r : EdgeList) → CanJoin left right border s r → Stands whole ((s ++ r) ++ map listed border) → whole.given ≡ left.given + right.given + length border
+given-sum left right whole border s r m st =
+    let a : left.given ≡ length s = m.left_stands.given in let b : right.given ≡ length r = m.right_stands.given in
+    let w : whole.given ≡ length ((s ++ r) ++ map listed border) = st.given in
+    let n = length-append (s ++ r) (map listed border) in let k = length-append s r in
+    let l : length (map listed border) ≡ length border = length-map border listed in
+    omega (arith, w, n, k, l)
+
+-- two parts side by side were given few edges
+pub united-small : (left right : PartState) (s r : EdgeList) → AreUnited left right s r → left.given + right.given ≤ 2 ^ 32
+united-small left right s r m =
+    let few = few-edges (s ++ r) m.apart (λ e i. elim (IsIn-append_back e s r i) [ inl a ↦ m.left_stands.small e a | inr b ↦ m.right_stands.small e b ]) in
+    let a : left.given ≡ length s = m.left_stands.given in let b : right.given ≡ length r = m.right_stands.given in let n = length-append s r in
+    omega (arith, few, n)
+
+-- the sums of the united range
+pub sums-appended : (left right mid whole : PartState) → mid.region ≡ appended left.region right.region → KeepsRange mid.region whole.region → SumsUp left right whole
+sums-appended left right mid whole eq k = record {
+  first = k.first ∙ ap (λ (w : CellPool). w.first) eq;
+  count = k.count ∙ ap (λ (w : CellPool). length w.cells) eq ∙ length-append left.region.cells right.region.cells;
+  chunks = k.chunks ∙ ap (λ (w : CellPool). w.chunks) eq;
+  room = k.room ∙ ap (λ (w : CellPool). w.room) eq;
+}

@@ -47,7 +47,7 @@ stands-last part f s st =
         go (inr (inr none)) = absurd none
 
 -- edges of two lists that have different ranks together
-apart-across : (s r : EdgeList) → AreApart (s ++ r) → (g h : ListedEdge) → IsIn g s → IsIn h r → g.rank ≢ h.rank
+pub apart-across : (s r : EdgeList) → AreApart (s ++ r) → (g h : ListedEdge) → IsIn g s → IsIn h r → g.rank ≢ h.rank
 apart-across [] r a g h none j eq = none
 apart-across (e ∷ s) r a g h (inl same) j eq = a.0 h (IsIn-append h s r (inr j)) (ap (λ (x : ListedEdge). x.rank) same ∙ eq)
 apart-across (e ∷ s) r a g h (inr i) j eq = apart-across s r a.1 g h i j eq

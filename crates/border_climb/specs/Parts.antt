@@ -5,7 +5,7 @@ use Rattle.std.specs.Prelude.{Option, None}
 use Rattle.hg_base.specs.Edges.{ListedEdge, EdgeList, IsIn, AreApart, Joined, below}
 use Rattle.hg_base.specs.declared.graph.PlacedEdge.{PlacedEdge}
 use Rattle.hg_base.specs.declared.graph.Room.{Room}
-use Rattle.node_region.specs.Pool.{CellPool, IsCovered, cell_at, fresh_pool, IsNextTo}
+use Rattle.node_region.specs.Pool.{CellPool, count, IsCovered, cell_at, fresh_pool, IsNextTo}
 use Rattle.border_climb.specs.declared.given.Given.{Given}
 use Rattle.border_climb.specs.declared.given.Given.TheVariants as answers
 use Rattle.border_climb.specs.Stands.{PartState, Stands}
@@ -73,3 +73,18 @@ pub record AreUnited (left right : PartState) (s r : EdgeList) : Type 0 where
   pub left_stands : Stands left s
   pub right_stands : Stands right r
   pub apart : AreApart (s ++ r)
+
+-- for some lists the parts can be joined by the border
+abbrev pub SomeJoin : PartState → PartState → List PlacedEdge → Type 0
+SomeJoin left right border = (s : EdgeList) × ((r : EdgeList) × CanJoin left right border s r)
+
+-- for some lists the parts stand side by side
+abbrev pub SomeUnited : PartState → PartState → Type 0
+SomeUnited left right = (s : EdgeList) × ((r : EdgeList) × AreUnited left right s r)
+
+-- the range, the chunks and the room of two parts together
+pub record SumsUp (left right whole : PartState) : Type 0 where
+  pub first : whole.region.first ≡ left.region.first
+  pub count : count whole.region ≡ count left.region + count right.region
+  pub chunks : whole.region.chunks ≡ left.region.chunks + right.region.chunks
+  pub room : whole.region.room ≡ left.region.room

@@ -7,6 +7,6 @@ mod given;
 mod part;
 mod splicing;
 
-pub use building::build_tile;
+pub use building::{build_tile, join};
 pub use given::Given;
 pub use part::Part;

@@ -1,10 +1,10 @@
 ghost use Rattle.std.specs.Prelude.{◌≡◌, ◌≢◌, ℕ, ◌+◌, ◌*◌, ◌-◌, ◌++◌, ◌<◌, ◌≤◌, ◌∷◌, [], length, vec_capacity, Some, IfOk, IfSome};
 ghost use Rattle.hg_base.specs.Edges.{ListedEdge, EdgeList, components};
 ghost use Rattle.hg_base.specs.Placed.{placed};
-ghost use Rattle.node_region.specs.Pool.{IsCovered, IsUsed, IsPool, count, leaf_of};
+ghost use Rattle.node_region.specs.Pool.{IsCovered, IsUsed, IsPool, IsNextTo, count, leaf_of, appended};
 ghost use Rattle.border_climb.specs.Stands.{Stands, IsNewRank};
 ghost use Rattle.border_climb.specs.Splicing.{rank_of};
-ghost use Rattle.border_climb.specs.Parts.{IsAnswer, KeepsPart, empty_part, above_cell};
+ghost use Rattle.border_climb.specs.Parts.{IsAnswer, KeepsPart, AreUnited, SomeUnited, empty_part, above_cell};
 
 use crate::given::Given;
 use crate::splicing::splice;
@@ -95,6 +95,26 @@ impl Part {
         answer
     }
 
+    // This part and the other, which begins where this one ends, side by side.
+    pub(crate) fn unite(self, other: Part) -> Part
+        requires next { IsNextTo self.region other.region }
+        requires lots { length self.lots + length other.lots < 2 * self.region.room.chunks }
+        requires lists { SomeUnited self other }
+        ensures region { result.region ≡ appended self.region other.region }
+        ensures lots { result.lots ≡ self.lots ++ other.lots }
+        ensures stands { (s r : EdgeList) → AreUnited self other s r → Stands result (s ++ r) }
+    {
+        let _ = self.region.count();
+        let _ = other.region.count();
+        let given = self.given + other.given;
+        let lots = put_behind(self.lots, other.lots.as_slice());
+        Part {
+            region: self.region.append(other.region),
+            lots,
+            given,
+        }
+    }
+
     // Notes the number of a part that was taken in.
     pub(crate) fn note(&mut self, number: u32)
         requires { length self.old.lots < 2 * self.old.region.room.chunks - 1 }
@@ -175,4 +195,17 @@ fn reserve(alloc: Global, places: usize) -> Result<Vec<u32>, OutOfMemory>
     ensures reserved { IfOk result (λ lots. vec_capacity lots ≡ places) }
 {
     Vec::with_capacity(alloc, places).map_err(|_| OutOfMemory)
+}
+
+// Puts numbers behind others, whose list has place for them.
+fn put_behind(front: Vec<u32>, behind: &[u32]) -> Vec<u32>
+    requires { length front.items + length behind.now ≤ vec_capacity front }
+    ensures items { result.items ≡ front.items ++ behind.now }
+    ensures capacity { vec_capacity front ≤ vec_capacity result }
+{
+    let mut numbers = front;
+    for number in behind {
+        numbers.push_reserved(*number);
+    }
+    numbers
 }

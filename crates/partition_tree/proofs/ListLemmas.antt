@@ -76,8 +76,11 @@ edges-apart list = go 0 (length list)
   where
     go : (a n : ℕ) → AreApart (map (edge_at list) (range_with_len a n))
     go a zero = tt
-    go a (suc n) = (λ f i r. (let p = range-placed list (a + 1) n f i in
-        let lo : a + 1 ≤ p.0 = p.1.0 in let q : p.0 ≡ f.rank = ap (λ (x : ListedEdge). x.rank) p.1.1.1 in let w : a ≡ f.rank = r in omega arith), go (a + 1) n)
+    go a (suc n) = (
+      λ f i r. (let p = range-placed list (a + 1) n f i in
+          let lo : a + 1 ≤ p.0 = p.1.0 in let q : p.0 ≡ f.rank = ap (λ (x : ListedEdge). x.rank) p.1.1.1 in let w : a ≡ f.rank = r in omega arith),
+      go (a + 1) n,
+    )
 
 -- an edge's rank is a place of the list
 pub edges-low : (list : List Ranked) (e : ListedEdge) → IsIn e (edges_of list) → e.rank < length list

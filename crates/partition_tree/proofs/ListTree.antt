@@ -56,18 +56,18 @@ pub made-tree : (part : PartState) (list : List Ranked) (n : ℕ) (made numbers 
 made-tree part list n made numbers parents altitudes makers g is m =
     let s : EdgeList = edges_of list in
     let w : IsNumbering part (edges_of list) (count part.region) made numbers =
-        numbering-of part (edges_of list) (count part.region) (length list) m.noted_in.0 made numbers (given-Stands part list g) (edges-low list) m.noted_in.1.0 m.noted_in.1.1 m.numbers_of in
+    numbering-of part (edges_of list) (count part.region) (length list) m.noted_in.0 made numbers (given-Stands part list g) (edges-low list) m.noted_in.1.0 m.noted_in.1.1 m.numbers_of in
     let p : parents ≡ (tree_of (count part.region) (edges_of list)).parents =
-        m.parents_are
-        ∙ ap (λ (l : List ℕ). l ++ map (inner_parent (count part.region) part.region made numbers) (range_with_len 0 (length made)))
-            (leaf-parents part (edges_of list) (count part.region) (λ v. v) made numbers w (λ v lt. let f : part.region.first ≡ 0 = g.first in (omega arith, omega arith)))
-        ∙ ap (λ (l : List ℕ). map (λ v. node_or (count part.region) (edges_of list) v (next (edges_of list) v 0)) (range_with_len 0 (count part.region)) ++ l)
-            (inner-parents part (edges_of list) (count part.region) made numbers w) in
+    m.parents_are
+    ∙ ap (λ (l : List ℕ). l ++ map (inner_parent (count part.region) part.region made numbers) (range_with_len 0 (length made)))
+    (leaf-parents part (edges_of list) (count part.region) (λ v. v) made numbers w (λ v lt. let f : part.region.first ≡ 0 = g.first in (omega arith, omega arith)))
+    ∙ ap (λ (l : List ℕ). map (λ v. node_or (count part.region) (edges_of list) v (next (edges_of list) v 0)) (range_with_len 0 (count part.region)) ++ l)
+    (inner-parents part (edges_of list) (count part.region) made numbers w) in
     let a : altitudes ≡ (tree_of (count part.region) (edges_of list)).altitudes =
-        m.altitudes_are ∙ ap (λ (l : List ℕ). replicate (count part.region) 0 ++ l)
-        (inner-values part (edges_of list) (count part.region) made numbers w (λ r. (edge_at list r).weight) (λ e. e.weight) (λ e i. ap (λ (x : ListedEdge). x.weight) (edges-own list e i))) in
+    m.altitudes_are ∙ ap (λ (l : List ℕ). replicate (count part.region) 0 ++ l)
+    (inner-values part (edges_of list) (count part.region) made numbers w (λ r. (edge_at list r).weight) (λ e. e.weight) (λ e i. ap (λ (x : ListedEdge). x.weight) (edges-own list e i))) in
     let k : makers ≡ (tree_of (count part.region) (edges_of list)).makers =
-        m.makers_are ∙ inner-values part (edges_of list) (count part.region) made numbers w (λ r. (edge_at list r).number) (λ e. e.number) (λ e i. ap (λ (x : ListedEdge). x.number) (edges-own list e i)) in
+    m.makers_are ∙ inner-values part (edges_of list) (count part.region) made numbers w (λ r. (edge_at list r).number) (λ e. e.number) (λ e i. ap (λ (x : ListedEdge). x.number) (edges-own list e i)) in
     ap (λ (x : ℕ). lists_of x parents altitudes makers) is
     ∙ ap (λ (l : List ℕ). lists_of (count part.region) l altitudes makers) p
     ∙ ap (λ (l : List ℕ). lists_of (count part.region) (tree_of (count part.region) (edges_of list)).parents l makers) a
@@ -92,8 +92,8 @@ written-tree part list n made numbers leafs parents altitudes makers first_read 
       noted_in = w.noted_in;
       numbers_of = w.numbers_of;
       parents_are = w.parents_are
-      ∙ ap (λ (l : List ℕ). l ++ map (inner_parent (count part.region) part.region made numbers) (range_with_len 0 len)) w.leafs_are
-      ∙ ap (λ (k : ℕ). map (λ v. node_above numbers v (leaf_of part.region v)) (range_with_len 0 (count part.region)) ++ map (inner_parent (count part.region) part.region made numbers) (range_with_len 0 k)) w.len_is;
+          ∙ ap (λ (l : List ℕ). l ++ map (inner_parent (count part.region) part.region made numbers) (range_with_len 0 len)) w.leafs_are
+          ∙ ap (λ (k : ℕ). map (λ v. node_above numbers v (leaf_of part.region v)) (range_with_len 0 (count part.region)) ++ map (inner_parent (count part.region) part.region made numbers) (range_with_len 0 k)) w.len_is;
       altitudes_are = subst (λ (l : List ℕ). altitudes ≡ replicate (count part.region) 0 ++ map (λ i. (edge_at list (rank_of part.region (get_or l i 0))).weight) (range_with_len 0 (length l))) w.first_is w.altitudes_are;
       makers_are = subst (λ (l : List ℕ). makers ≡ map (λ i. (edge_at list (rank_of part.region (get_or l i 0))).number) (range_with_len 0 (length l))) w.second_is w.makers_are;
     })

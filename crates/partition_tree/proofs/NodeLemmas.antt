@@ -4,8 +4,6 @@ use Rattle.std.specs.Prelude.{count_by, IfSome, slice_set}
 use Rattle.hg_base.specs.Text.{line}
 use Rattle.hg_base.specs.Tree.{ParentTree, parent, altitude}
 use Rattle.partition_tree.specs.Report.{node_line}
-
-
 use Rattle.std.specs.List.{range_with_len, flat_map}
 use Rattle.std.proofs.lemmas.List.Sums.{sum_by-append, count_by-le-length}
 use Rattle.std.proofs.lemmas.List.Concat.{flat_map-append}
@@ -51,4 +49,3 @@ pub line_more : (tree : ParentTree) (head text new : List ℕ) (i a b d : ℕ) �
 line_more tree head text new i a b d so_far pushed number above high =
     let more = pieces_more (node_line tree) head i in
     cc
-

@@ -83,11 +83,7 @@ fn edge_of(part: &Part, list: &[Ranked], cell: u32) -> Ranked
 }
 
 // The parents of the leaves, with room for those of the other nodes.
-fn leaf_parents(
-    alloc: Global,
-    part: &Part,
-    numbering: &Numbering,
-) -> Result<Vec<u32>, AllocError>
+fn leaf_parents(alloc: Global, part: &Part, numbering: &Numbering) -> Result<Vec<u32>, AllocError>
     requires cells { (edges : ℕ) × AreCells part.now edges }
     requires numbers { vec_len numbering.now.numbers ≡ count part.now.region }
     requires few { vec_len numbering.now.made ≤ 4194304 }
@@ -124,12 +120,7 @@ fn altitudes(
 }
 
 // The numbers of the edges that make the nodes.
-fn makers(
-    alloc: Global,
-    part: &Part,
-    list: &[Ranked],
-    made: &[u32],
-) -> Result<Vec<u32>, AllocError>
+fn makers(alloc: Global, part: &Part, list: &[Ranked], made: &[u32]) -> Result<Vec<u32>, AllocError>
     requires cells { AreCells part.now (length list.now) }
     requires made { AreMakers part.now.region made.now }
     ensures { IfOk result (λ makers. makers.items ≡ map (λ i. (edge_at list.now (rank_of part.now.region (slice_index made.now i))).number) (range_with_len 0 (length made.now))) }

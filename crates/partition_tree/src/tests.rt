@@ -198,7 +198,10 @@ fn lists(rt: HostRuntime) -> Result<(), Fail> {
     let makers = vec![in rt.alloc(); 5]?;
     let tree = Tree::from_lists(rt.alloc(), 2, parents, altitudes, makers)?;
     let text = write_tree(rt.alloc(), &tree)?;
-    assert_eq!(rt; text.as_slice(), "tree 3 2\n0 2 0\n1 2 0\n2 2 7\n".as_bytes());
+    assert_eq!(rt;
+        text.as_slice(),
+        "tree 3 2\n0 2 0\n1 2 0\n2 2 7\n".as_bytes()
+    );
     assert!(rt; tree.leaves() <= 2 && 2 < tree.nodes());
     assert_eq!(rt; tree.maker(2), 5);
     Ok(())

@@ -23,6 +23,9 @@ progress n l p = record { taken = n; lexer = l; parsing = p }
 shift : (place n : ℕ) → place + suc n ≡ (place + 1) + n
 shift place n = omega arith
 
+past : (place n k : ℕ) → place + (n + k) ≡ (place + n) + k
+past place n k = omega arith
+
 within : (n k : ℕ) → nat_lt n ((n + 1) + k) ≡ true
 within n k = grind arith
 
@@ -45,15 +48,20 @@ pub read-nothing : (m : Parsing) → m.stage ≡ stages.FirstWord → HasRead (p
 unfolding reading_at settling lexed edge_list settles reading_on settles_with
 read-nothing m e = rw e (record { taken = refl; reading = λ memory rest. rw zero-add refl; settling = λ rest. rw zero-add refl })
 
--- a byte that ends no token
-pub read-quiet : (p : Parsing) (l k : Lexer) (n b : ℕ) (bytes : List ℕ) → ((rest : List ℕ) → lexed l n (b ∷ rest) ≡ lexed k (n + 1) rest)
-    → HasRead (progress n l p) bytes → HasRead (progress (n + 1) k p) (bytes ++ b ∷ [])
+-- bytes that end no token
+pub read-quiet : (p : Parsing) (l k : Lexer) (n : ℕ) (more bytes : List ℕ) → ((rest : List ℕ) → lexed l n (more ++ rest) ≡ lexed k (n + length more) rest)
+    → HasRead (progress n l p) bytes → HasRead (progress (n + length more) k p) (bytes ++ more)
 unfolding reading_on settles_with
-read-quiet p l k n b bytes tokens read = record {
+read-quiet p l k n more bytes tokens read = record {
   taken = rw (length-append, read.taken) refl;
-  reading = λ memory rest. rw (append_assoc, ← read.reading memory (b ∷ rest), tokens rest, shift n (length rest)) refl;
-  settling = λ rest. rw (append_assoc, ← read.settling (b ∷ rest), tokens rest, shift n (length rest)) refl;
+  reading = λ memory rest. rw (append_assoc, ← read.reading memory (more ++ rest), tokens rest, length-append, past n (length more) (length rest)) refl;
+  settling = λ rest. rw (append_assoc, ← read.settling (more ++ rest), tokens rest, length-append, past n (length more) (length rest)) refl;
 }
+
+-- one piece and then another are one
+pub read-both : (p : Parsing) (k : Lexer) (n a b : ℕ) (bytes first second all : List ℕ) → all ≡ first ++ second
+    → HasRead (progress ((n + a) + b) k p) ((bytes ++ first) ++ second) → HasRead (progress (n + (a + b)) k p) (bytes ++ all)
+read-both p k n a b bytes first second all e read = rw (e, past n a b, ← append_assoc bytes first second) read
 
 ended-first : (n end at : ℕ) (token : Token) (ts : List PlacedToken) → nat_lt n end ≡ true
     → ended end (record { from = at; to = n; token = token } ∷ ts) ≡ record { from = at; to = n; token = token } ∷ ended end ts

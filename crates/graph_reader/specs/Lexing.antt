@@ -1,5 +1,5 @@
 -- The tokens that are still to come, seen from where the reading stands.
-use Rattle.std.specs.Prelude.{ℕ, ◌+◌, ◌-◌, ◌*◌, ◌^◌, ◌<◌, ◌≤◌, true, false, ◌&&◌, nat_le, if◌then◌else◌, List, ◌∷◌, ◌++◌, length, take, codes}
+use Rattle.std.specs.Prelude.{◌≡◌, ℕ, ◌+◌, ◌-◌, ◌*◌, ◌^◌, ◌<◌, ◌≤◌, true, false, ◌&&◌, nat_le, if◌then◌else◌, List, ◌∷◌, ◌++◌, length, take, codes}
 use Rattle.std.specs.List.{list_all, fold}
 use Rattle.std.specs.Char.{is_ascii_digit}
 use Rattle.graph_reader.specs.declared.token.Token.{Token}
@@ -36,3 +36,7 @@ lexed Comment place bytes = tokens_from true place (blanked true bytes)
 lexed (Inside start text) place bytes =
     let more = word (blanked false bytes) in
     record { from = start; to = place + length more; token = meaning_with text more } ∷ tokens_from false place (blanked false bytes)
+
+-- these bytes lead from one to the other, and end no token
+abbrev pub GoesOn : Lexer → Lexer → List ℕ → Type 0
+GoesOn from to bytes = (place : ℕ) (rest : List ℕ) → lexed from place (bytes ++ rest) ≡ lexed to (place + length bytes) rest

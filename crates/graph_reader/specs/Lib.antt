@@ -6,3 +6,4 @@ pub mod ParserFields
 pub mod Progress
 pub mod DecoderFields
 pub mod Spelling
+pub mod FirstFault

@@ -1,4 +1,4 @@
-ghost use Rattle.std.specs.Prelude.{◌≡◌, ◌+◌, ◌<◌, ◌≤◌, ◌↔◌, ℕ, List, [], ◌∷◌, ◌++◌, length, IsTrue, IsFalse, IfOk, Err, is_err};
+ghost use Rattle.std.specs.Prelude.{◌≡◌, ◌+◌, ◌<◌, ◌≤◌, ◌↔◌, ℕ, List, [], ◌∷◌, ◌++◌, length, take, IsTrue, IsFalse, IfOk, Err, is_err};
 ghost use Rattle.graph_reader.specs.EdgeList.{edge_list, settles};
 ghost use Rattle.graph_reader.specs.Lexing.{IsLexing};
 ghost use Rattle.graph_reader.specs.Parsing.{KeepsMemory};
@@ -117,6 +117,26 @@ fn read_byte(lexer: Lexer, place: u64, parser: &mut Parser, b: u8) -> Lexer
     }
 }
 
+// Reads some bytes of a piece that begins at this place: the digits that go on with a number, and the
+// byte behind them. Answers how many they are.
+fn read_some(lexer: Lexer, place: u64, parser: &mut Parser, piece: &[u8]) -> (Lexer, usize)
+    requires lexing { IsLexing lexer }
+    requires some { 0 < length piece.now }
+    requires short { place + length piece.now ≤ 134217728 }
+    ensures lexing { IsLexing result.0 }
+    ensures count { (0 < result.1) × (result.1 ≤ length piece.now) }
+    ensures read { (bytes : List ℕ) → HasRead (record { taken = place; lexer = lexer; parsing = parser.old }) bytes
+        → HasRead (record { taken = place + result.1; lexer = result.0; parsing = parser.new }) (bytes ++ take result.1 piece.now) }
+    ensures keeps { KeepsMemory parser.old parser.new }
+{
+    let (now, digits) = lexer.after_digits(piece);
+    if digits == piece.len() {
+        return (now, digits);
+    }
+    let next = read_byte(now, place + digits as u64, parser, piece[digits]);
+    (next, digits + 1)
+}
+
 // Reads a piece that begins at this place.
 fn read_piece(lexer: Lexer, place: u64, parser: &mut Parser, piece: &[u8]) -> Lexer
     requires lexing { IsLexing lexer }
@@ -127,10 +147,11 @@ fn read_piece(lexer: Lexer, place: u64, parser: &mut Parser, piece: &[u8]) -> Le
     ensures keeps { KeepsMemory parser.old parser.new }
 {
     let mut now = lexer;
-    let mut at = place;
-    for b in piece {
-        now = read_byte(now, at, parser, *b);
-        at += 1;
+    let mut read = 0;
+    while read < piece.len() {
+        let (next, count) = read_some(now, place + read as u64, parser, &piece[read..]);
+        now = next;
+        read += count;
     }
     now
 }

@@ -1,5 +1,5 @@
-ghost use Rattle.std.specs.Prelude.{◌≡◌, ◌+◌, ◌∷◌, [], List, ℕ, MatchOption};
-ghost use Rattle.graph_reader.specs.Lexing.{IsBegun, meaning_with, IsLexing, lexed};
+ghost use Rattle.std.specs.Prelude.{◌≡◌, ◌+◌, ◌≤◌, ◌∷◌, [], List, ℕ, length, take, MatchOption};
+ghost use Rattle.graph_reader.specs.Lexing.{IsBegun, meaning_with, IsLexing, lexed, GoesOn};
 ghost use Rattle.graph_reader.specs.Tokens.{meaning, is_space, is_line_end};
 
 use crate::token::{Found, Token};
@@ -99,6 +99,24 @@ fn is_line_end(b: u8) -> bool
     matches!(b, b'\n' | b'\r')
 }
 
+// Reads the digits that go on with the number that begins at this place. Answers how many they are.
+fn read_digits(at: u64, digits: u8, value: u64, piece: &[u8]) -> (Lexer, usize)
+    requires { IsBegun (Text.Number digits value) }
+    ensures valid { IsLexing result.0 }
+    ensures count { result.1 ≤ length piece.now }
+    ensures tokens { GoesOn (Lexer.Inside at (Text.Number digits value)) result.0 (take result.1 piece.now) }
+{
+    let mut all = digits;
+    let mut sum = value;
+    let mut count = 0;
+    while count < piece.len() && all < 10 && piece[count].is_ascii_digit() {
+        sum = sum * 10 + u64::from(piece[count] - b'0');
+        all += 1;
+        count += 1;
+    }
+    (Lexer::Inside(at, Text::Number(all, sum)), count)
+}
+
 impl Lexer {
     /// Where the reading stands after the byte at this place, and the token that ended there.
     pub fn after(self, place: u64, b: u8) -> (Lexer, Option<Found>)
@@ -126,6 +144,20 @@ impl Lexer {
                 }
             }
             Lexer::Inside(at, text) => Lexer::after_inside(at, text, place, b),
+        }
+    }
+
+    /// Where the reading stands after the digits that the piece begins with, where a number goes on,
+    /// and how many they are.
+    pub fn after_digits(self, piece: &[u8]) -> (Lexer, usize)
+        requires { IsLexing self }
+        ensures valid { IsLexing result.0 }
+        ensures count { result.1 ≤ length piece.now }
+        ensures tokens { GoesOn self result.0 (take result.1 piece.now) }
+    {
+        match self {
+            Lexer::Inside(at, Text::Number(digits, value)) => read_digits(at, digits, value, piece),
+            _ => (self, 0),
         }
     }
 

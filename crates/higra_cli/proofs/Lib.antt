@@ -1,4 +1,7 @@
+pub mod CommandLemmas
 pub mod LineLemmas
+pub mod NumberLemmas
+pub mod OrderedLemmas
 pub mod ReadingLemmas
 pub mod RunningLemmas
-pub mod OrderedLemmas
+pub mod SpelledLemmas

@@ -1,20 +1,90 @@
--- Which words give which request.
-use Rattle.std.specs.Prelude.{ℕ, List, [], ◌∷◌, Option, Some, None, codes, option_map, if◌then◌else◌}
+-- Which texts of a command line give which request: the table of the words and options.
+use Rattle.std.specs.Prelude.{ℕ, ◌^◌, Bool, ◌&&◌, ◌||◌, nat_le, nat_lt, List, length, Option, Some, None, is_some, codes, if◌then◌else◌}
+use Rattle.std.specs.Char.{is_ascii_digit}
+use Rattle.std.specs.List.{list_all}
 use Rattle.std.specs.Str.{bytes_eq}
+use Rattle.std.specs.Str.Parse.{digits_value}
 use Rattle.higra_cli.specs.declared.request.Report.{Report}
 use Rattle.higra_cli.specs.declared.request.Report.TheVariants.{Tree}
+use Rattle.higra_cli.specs.declared.request.Form.{Form}
 use Rattle.higra_cli.specs.declared.request.Form.TheVariants.{Text}
+use Rattle.higra_cli.specs.declared.request.Made.{Made}
 use Rattle.higra_cli.specs.declared.request.Request.{Request}
 
--- the report that a word names
-abbrev pub report_named : List ℕ → Option Report
-report_named word = if bytes_eq word (codes "tree") then Some Tree else None
+-- the texts of a command line: that of REPORT, and those of the options that are given
+pub record CommandLine : Type 0 where
+  pub report : List ℕ
+  pub tile : Option (List ℕ)
+  pub workers : Option (List ℕ)
+  pub kind : Option (List ℕ)
+  pub level : Option (List ℕ)
+  pub form : Option (List ℕ)
+  pub make : Option (List ℕ)
+  pub seed : Option (List ℕ)
 
--- the request for a report where no option is given
-abbrev pub plain_request : Report → Request
-plain_request report = record { report = report; tile = 64; workers = 4; form = Text; made = None }
+-- Below, None says that the texts give no request.
+infixl 10 ◌>>=◌
+abbrev pub ◌>>=◌ : {A B : Type 0} → Option A → (A → Option B) → Option B
+None >>= f = None
+(Some x) >>= f = f x
 
--- the request that the words give, if they give one: now, one word that names a report
-abbrev pub request_by : List (List ℕ) → Option Request
-request_by (word ∷ []) = option_map plain_request (report_named word)
-request_by _ = None
+-- one to twenty digits
+abbrev pub is_number : List ℕ → Bool
+is_number text = list_all is_ascii_digit text && (nat_le 1 (length text) && nat_le (length text) 20)
+
+-- the value of a number, which is below 2 ^ 64
+abbrev pub number : List ℕ → Option ℕ
+number text = if is_number text && nat_lt (digits_value 10 text) (2 ^ 64) then Some (digits_value 10 text) else None
+
+-- n, where it is from least to most
+abbrev pub within : ℕ → ℕ → ℕ → Option ℕ
+within least most n = if nat_le least n && nat_le n most then Some n else None
+
+-- the value of a number from least to most
+abbrev pub number_in : ℕ → ℕ → List ℕ → Option ℕ
+number_in least most text = do
+  n ← number text
+  within least most n
+
+-- the value of an option, which is the default where the option isn't given
+abbrev pub value_or : {A : Type 0} → A → (List ℕ → Option A) → Option (List ℕ) → Option A
+value_or default read None = Some default
+value_or default read (Some text) = read text
+
+-- `--tile`: 1 to 1,048,576, or else 64
+abbrev pub tile_by : Option (List ℕ) → Option ℕ
+tile_by = value_or 64 (number_in 1 1048576)
+
+-- `--workers`: 1 to 64, or else 4
+abbrev pub workers_by : Option (List ℕ) → Option ℕ
+workers_by = value_or 4 (number_in 1 64)
+
+-- the form with this name; `pgm` is one where a report takes it, and none does so far
+abbrev pub form_named : List ℕ → Option Form
+form_named text = if bytes_eq text (codes "text") then Some Text else None
+
+-- `--form`: `text`, or else `text`
+abbrev pub form_by : Option (List ℕ) → Option Form
+form_by = value_or Text form_named
+
+-- a report that takes no `--kind` and no `--level`
+abbrev pub alone : CommandLine → Report → Option Report
+alone line report = if is_some line.kind || is_some line.level then None else Some report
+
+-- REPORT, with the options that this report takes
+abbrev pub report_by : CommandLine → Option Report
+report_by line = if bytes_eq line.report (codes "tree") then alone line Tree else None
+
+-- `--make` and `--seed`: so far no picture is made, and neither is taken
+abbrev pub made_by : CommandLine → Option (Option Made)
+made_by line = if is_some line.make || is_some line.seed then None else Some None
+
+-- the request of these texts, if they give one
+abbrev pub request_by : CommandLine → Option Request
+request_by line = do
+  report ← report_by line
+  tile ← tile_by line.tile
+  workers ← workers_by line.workers
+  form ← form_by line.form
+  made ← made_by line
+  Some (record { report = report; tile = tile; workers = workers; form = form; made = made })

@@ -2,7 +2,7 @@
 use Rattle.std.specs.Prelude.{◌≡◌, ◌⊎◌, ℕ, ◌-◌, ◌^◌, ◌<◌, ◌≤◌, List, Option, Some, None, Result, MatchResult}
 use Rattle.hg_base.specs.Outside.{Rose, AppendsPrefix}
 use Rattle.higra_cli.specs.Reading.{Told, GaveEdgeList, IsFor, answer_of}
-use Rattle.higra_cli.specs.Request.{request_by}
+use Rattle.higra_cli.specs.Command.{requested}
 use Rattle.higra_cli.specs.declared.request.Request.{Request}
 use Rattle.higra_cli.specs.declared.request.Form.TheVariants as forms
 use Rattle.higra_cli.specs.declared.ending.Status.{Status}
@@ -18,7 +18,7 @@ pub record CanReport (request : Request) : Type 0 where
 
 -- the words give a request
 abbrev pub HasRequest : List (List ℕ) → Type 0
-HasRequest words = (request : Request) × (request_by words ≡ Some request)
+HasRequest words = (request : Request) × (requested words ≡ Some request)
 
 -- a count stood still, below the end of its type
 pub record StoodStill (before after : ℕ) : Type 0 where
@@ -38,7 +38,7 @@ abbrev pub Ends : List (List ℕ) → Told → Told → Told → Told → Status
 Ends words source source' out out' statuses.Success =
     HasRequest words × GaveEdgeList source.bytes source'.bytes × IsFor source.bytes statuses.Success × (source'.faults ≡ source.faults) × (out'.faults ≡ out.faults)
 Ends words source source' out out' statuses.Usage =
-    (request_by words ≡ None) × (source'.faults ≡ source.faults) × (out'.faults ≡ out.faults)
+    (requested words ≡ None) × (source'.faults ≡ source.faults) × (out'.faults ≡ out.faults)
 Ends words source source' out out' (statuses.Input fault) =
     HasRequest words × IsFor source.bytes (statuses.Input fault) × (source'.faults ≡ source.faults) × (out'.faults ≡ out.faults)
 Ends words source source' out out' statuses.ReadFailed =

@@ -1,9 +1,12 @@
 //! The program's words, what they ask for, and a whole run: from words and a source to a report and a status.
 #![tactic(auto)]
 
+mod command;
 mod ending;
 mod input;
+pub mod laws;
 mod line;
+mod options;
 mod reading;
 mod request;
 mod running;
@@ -20,3 +23,5 @@ pub use writing::{RunFault, report};
 
 #[cfg(test)]
 mod tests;
+#[cfg(test)]
+mod worked;

@@ -1,9 +1,16 @@
 // What the words ask for.
-ghost use Rattle.std.specs.Prelude.{◌≡◌, IfOk, IfErr};
-ghost use Rattle.higra_cli.specs.Request.{plain_request, report_named, request_by};
+ghost use Rattle.std.specs.Prelude.{◌≡◌, IfOk, IfSome};
+ghost use Rattle.clap.specs.Words.{found_of, rows_of};
+ghost use Rattle.higra_cli.specs.Command.{request_in, requested};
+ghost use Rattle.higra_cli.specs.Given.{texts_of};
+ghost use Rattle.higra_cli.specs.Request.{alone, made_by, report_by, request_by};
+ghost use Rattle.higra_cli.specs.Running.{CanReport};
 
+use super::command::{Given, matches_on, texts_in};
+use super::options::{form_by, tile_by, workers_by};
 use super::words::Words;
-use std::alloc::Global;
+use clap::ArgMatches;
+use std::alloc::{AllocError, Global};
 
 /// What is written about the input.
 #[derive(Clone, Copy, Debug, PartialEq, Eq)]
@@ -50,42 +57,85 @@ pub enum WordsFault {
     OutOfMemory,
 }
 
-// The request for this report, where no option is given.
-fn plain(report: Report) -> Request
-    ensures { result ≡ plain_request report }
-{
-    Request {
-        report,
-        tile: 64,
-        workers: 4,
-        form: Form::Text,
-        made: None,
+impl From<AllocError> for WordsFault {
+    ghost use Rattle.std.specs.Prelude.{◌≡◌};
+    ghost use Rattle.higra_cli.specs.declared.request.WordsFault.TheVariants as faults;
+
+    ghost from_gives = { λ _ fault. fault ≡ faults.OutOfMemory };
+
+    fn from(_error: AllocError) -> WordsFault {
+        WordsFault::OutOfMemory
     }
 }
 
-// The report with this name.
-fn report_of(word: &str) -> Option<Report>
-    ensures { result ≡ report_named word.now }
-{
-    if word == "tree" {
-        Some(Report::Tree)
-    } else {
-        None
-    }
-}
-
-/// What the words ask for: now, one word that names a report.
+/// What the words ask for: `REPORT [--tile N] [--workers W] [--kind K] [--level T] [--form F] [--make SIDE] [--seed S]`,
+/// read by `clap`.
 ///
-/// Usage where the words give no request; OutOfMemory may come for any words.
-pub fn request_of(_alloc: Global, words: &Words) -> Result<Request, WordsFault>
-    ensures request { IfOk result (λ request. request_by words.now ≡ Some request) }
-    ensures usage { result ≡ Err WordsFault.Usage → request_by words.now ≡ None }
+/// Usage exactly where the words give no request, memory aside; OutOfMemory may come for any words.
+pub fn request_of(alloc: Global, words: &Words) -> Result<Request, WordsFault>
+    ensures request { IfOk result (λ request. requested words.now ≡ Some request) }
+    ensures can_report { IfOk result CanReport }
+    ensures usage { result ≡ Err WordsFault.Usage → requested words.now ≡ None }
 {
-    if words.len() != 1 {
-        return Err(WordsFault::Usage);
-    }
-    match report_of(words.word(0)) {
-        Some(report) => Ok(plain(report)),
+    let line = words.behind(alloc, "higra")?;
+    let matches = matches_on(alloc, &line)?;
+    match request_in(&matches) {
+        Some(request) => Ok(request),
         None => Err(WordsFault::Usage),
+    }
+}
+
+// The request of the texts that were found.
+fn request_in(matches: &ArgMatches) -> Option<Request>
+    ensures request { result ≡ request_in (rows_of (found_of matches.now)) }
+    ensures can_report { IfSome result CanReport }
+{
+    let given = texts_in(matches)?;
+    request_by(&given)
+}
+
+// The request of these texts.
+fn request_by(given: &Given) -> Option<Request>
+    ensures request { result ≡ request_by (texts_of given.now) }
+    ensures can_report { IfSome result CanReport }
+{
+    Some(Request {
+        report: report_by(given)?,
+        tile: tile_by(given.tile)?,
+        workers: workers_by(given.workers)?,
+        form: form_by(given.form)?,
+        made: made_by(given)?,
+    })
+}
+
+// REPORT, with the options that this report takes.
+fn report_by(given: &Given) -> Option<Report>
+    ensures { result ≡ report_by (texts_of given.now) }
+{
+    match given.report {
+        "tree" => alone(given, Report::Tree),
+        _ => None,
+    }
+}
+
+// A report that takes no `--kind` and no `--level`.
+fn alone(given: &Given, report: Report) -> Option<Report>
+    ensures { result ≡ alone (texts_of given.now) report }
+{
+    if given.kind.is_some() || given.level.is_some() {
+        None
+    } else {
+        Some(report)
+    }
+}
+
+// `--make` and `--seed`: so far no picture is made, and neither is taken.
+fn made_by(given: &Given) -> Option<Option<Made>>
+    ensures { result ≡ made_by (texts_of given.now) }
+{
+    if given.make.is_some() || given.seed.is_some() {
+        None
+    } else {
+        Some(None)
     }
 }

@@ -3,9 +3,9 @@ ghost use Rattle.std.specs.Prelude.{◌≡◌, ◌≢◌, ◌⊎◌, ◌<◌, �
 ghost use Rattle.std.specs.Io.KnownBytes.{Appends};
 ghost use Rattle.hg_base.specs.Outside.{AppendsPrefix, Rose};
 ghost use Rattle.hg_base.specs.declared.fault.InputFault.{InputFault};
+ghost use Rattle.higra_cli.specs.Command.{requested};
 ghost use Rattle.higra_cli.specs.Ending.{fault_line};
 ghost use Rattle.higra_cli.specs.Reading.{GaveAtMost, GaveEdgeList, IsFor, told};
-ghost use Rattle.higra_cli.specs.Request.{request_by};
 ghost use Rattle.higra_cli.specs.Running.{AppendsSome, EndsWork, HasRequest, IsAnswerTo, StoodStill};
 
 use super::ending::Status;
@@ -34,8 +34,8 @@ pub fn run<S: Source, K: Sink, E: Sink, G: Gate>(
     gate: &G,
 ) -> Status
     // The words.
-    ensures usage { result ≡ Status.Usage → request_by words.now ≡ None }
-    ensures no_request { request_by words.now ≡ None → (result ≡ Status.Usage) ⊎ (result ≡ Status.OutOfMemory) }
+    ensures usage { result ≡ Status.Usage → requested words.now ≡ None }
+    ensures no_request { requested words.now ≡ None → (result ≡ Status.Usage) ⊎ (result ≡ Status.OutOfMemory) }
     ensures unread { result ≡ Status.Usage → source.new ≡ source.old }
 
     // The source.

@@ -1,4 +1,4 @@
-use super::{Status, Words, WordsFault, request_of, run};
+use super::{Form, Report, Request, Status, Words, WordsFault, request_of, run};
 use hg_base::{Failed, MemSink, MemSource, OpenGate, OutOfMemory, Sink, Source};
 use std::alloc::{AllocError, Global};
 use std::process::Abort;
@@ -149,9 +149,80 @@ fn asks_for_nothing(
 
 #[test]
 fn words_that_give_no_request(rt: HostRuntime) -> Result<(), Fail> {
-    let rows: [&[&str]; 3] = [&[], &["forest"], &["tree", "tree"]];
+    let rows: [&[&str]; 38] = [
+        &[],
+        &[""],
+        &["forest"],
+        &["help"],
+        &["tree", "tree"],
+        &["tree", "--tile", "0"],
+        &["tree", "--tile", "1048577"],
+        &["tree", "--tile", "000000000000000000008"],
+        &["tree", "--tile", "18446744073709551616"],
+        &["tree", "--tile", "99999999999999999999"],
+        &["tree", "--tile", ""],
+        &["tree", "--tile="],
+        &["tree", "--tile", "+8"],
+        &["tree", "--tile", "-1"],
+        &["tree", "--tile", "8x"],
+        &["tree", "--tile"],
+        &["tree", "--tile", "8", "--tile", "8"],
+        &["tree", "--tile=8", "--tile=8"],
+        &["tree", "--til", "8"],
+        &["tree", "-t", "8"],
+        &["--tile", "8"],
+        &["tree", "--workers", "0"],
+        &["tree", "--workers", "65"],
+        &["tree", "--level", "0"],
+        &["tree", "--level", "3"],
+        &["tree", "--kind", "altitude"],
+        &["tree", "--form", "pgm"],
+        &["tree", "--form", "Text"],
+        &["tree", "--seed", "4"],
+        &["hierarchical", "--kind", "altitude"],
+        &["cut", "--level", "1x"],
+        &["tree", "--report", "tree"],
+        &["tree", "--help"],
+        &["--help"],
+        &["-h"],
+        &["tree", "--version"],
+        &["-V"],
+        &["--", "tree", "--tile", "8"],
+    ];
     for texts in rows {
         asks_for_nothing(&rt, rt.alloc(), texts)?;
+    }
+    Ok(())
+}
+
+// Words, and the tile size and the number of workers that they ask for.
+#[test]
+fn words_that_give_a_request(rt: HostRuntime) -> Result<(), Fail> {
+    let rows: [(&[&str], u32, u32); 13] = [
+        (&["tree"], 64, 4),
+        (&["tree", "--tile", "1"], 1, 4),
+        (&["tree", "--tile", "1048576"], 1_048_576, 4),
+        (&["tree", "--tile", "08"], 8, 4),
+        (&["tree", "--tile", "00000000000000000008"], 8, 4),
+        (&["tree", "--tile=8"], 8, 4),
+        (&["tree", "--workers", "1"], 64, 1),
+        (&["tree", "--workers", "64"], 64, 64),
+        (&["--workers", "2", "tree", "--tile", "8"], 8, 2),
+        (&["--tile", "8", "--workers=2", "tree"], 8, 2),
+        (&["tree", "--form", "text"], 64, 4),
+        (&["--form=text", "--tile", "8", "tree"], 8, 4),
+        (&["--tile", "8", "--", "tree"], 8, 4),
+    ];
+    for (texts, tile, workers) in rows {
+        let words = words_of(rt.alloc(), texts)?;
+        let request = Request {
+            report: Report::Tree,
+            tile,
+            workers,
+            form: Form::Text,
+            made: None,
+        };
+        assert_eq!(&rt; request_of(rt.alloc(), &words), Ok(request));
     }
     Ok(())
 }

@@ -1,7 +1,7 @@
-ghost use Rattle.std.specs.Prelude.{◌≡◌, ◌<◌, [], ◌∷◌, ◌++◌, length, OnOk, OnErr, slice_get, Some};
+ghost use Rattle.std.specs.Prelude.{◌≡◌, [], ◌∷◌, ◌++◌, IfOk, OnOk, OnErr, map};
 
 use hg_base::OutOfMemory;
-use std::alloc::Global;
+use std::alloc::{AllocError, Global};
 use std::marker::Model;
 
 /// The words of a command line, after the program's name.
@@ -38,18 +38,19 @@ impl Words {
         Ok(())
     }
 
-    // The number of words.
-    pub(crate) fn len(&self) -> usize
-        ensures { result ≡ length self.now }
+    // The words behind this name: a whole command line.
+    pub(crate) fn behind<'a>(
+        &'a self,
+        alloc: Global,
+        name: &'a str,
+    ) -> Result<Vec<&'a str>, AllocError>
+        ensures { IfOk result (λ line. map (λ s. s.now) line.items ≡ name.entry.now ∷ self.entry.now) }
     {
-        self.texts.len()
-    }
-
-    // The word at this place, from 0.
-    pub(crate) fn word(&self, place: usize) -> &str
-        requires { place < length self.now }
-        ensures { slice_get self.now place ≡ Some result.now }
-    {
-        self.texts[place].as_str()
+        let mut line = Vec::with_capacity(alloc, self.texts.len() + 1)?;
+        line.push(name)?;
+        for text in &self.texts {
+            line.push(text.as_str())?;
+        }
+        Ok(line)
     }
 }

@@ -1,1 +1,4 @@
 pub mod Pool
+pub mod Tables
+pub mod Kept
+pub mod RegionFields

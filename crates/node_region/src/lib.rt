@@ -2,5 +2,9 @@
 #![tactic(auto)]
 
 mod cell;
+mod chunk;
+mod region;
+mod tables;
 
 pub use cell::{Cell, Hint};
+pub use region::Region;

@@ -4,9 +4,8 @@ use Rattle.std.specs.Prelude.{count_by, IfSome, slice_set}
 use Rattle.hg_base.specs.Text.{line}
 use Rattle.hg_base.specs.Tree.{ParentTree, parent, altitude}
 use Rattle.partition_tree.specs.Report.{node_line}
-use Rattle.border_climb.specs.Chains.{Chains, IsUsed}
-use Rattle.partition_tree.specs.Joining.{AreUsed}
-use Rattle.std.proofs.lemmas.List.Elements.{All-set}
+
+
 use Rattle.std.specs.List.{range_with_len, flat_map}
 use Rattle.std.proofs.lemmas.List.Sums.{sum_by-append, count_by-le-length}
 use Rattle.std.proofs.lemmas.List.Concat.{flat_map-append}
@@ -53,6 +52,3 @@ line_more tree head text new i a b d so_far pushed number above high =
     let more = pieces_more (node_line tree) head i in
     cc
 
--- one more cell is noted
-pub noted_more : (part : Chains) (cells : List (Option ℕ)) (rank cell : ℕ) → IsUsed part cell → AreUsed part cells → AreUsed part (slice_set cells rank (Some cell))
-noted_more part cells rank cell used noted = All-set (λ (o : Option ℕ). IfSome o (IsUsed part)) cells rank (Some cell) used noted

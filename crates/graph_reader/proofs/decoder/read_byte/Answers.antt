@@ -1,3 +1,4 @@
+use Rattle.std.proofs.Common.{◌∷◌, []}
 use Rattle.graph_reader.proofs.Decoding.{read-quiet, read-token, keeps-taking}
 use Rattle.graph_reader.proofs.decoder.read_byte.Goals as goal
 
@@ -11,5 +12,5 @@ returns-in-Some-clause-keeps c = keeps-taking _ _ _ _ c.take.ensures
 
 pub returns-in-None-clause-read : goal.returns-in-None-clause-read
 returns-in-None-clause-read c =
-    λ bytes. read-quiet c.args.parser.now c.args.lexer c.after-next.result.0 c.args.place c.args.b bytes
+    λ bytes. read-quiet c.args.parser.now c.args.lexer c.after-next.result.0 c.args.place (c.args.b ∷ []) bytes
     (λ rest. rw c.in-None.is at (c.after-next.ensures.tokens rest))

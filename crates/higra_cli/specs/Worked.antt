@@ -1,0 +1,14 @@
+-- Command lines that are worked out.
+use Rattle.std.specs.Prelude.{ℕ, List, None}
+use Rattle.higra_cli.specs.Request.{CommandLine}
+use Rattle.higra_cli.specs.declared.request.Form.TheVariants.{Text}
+use Rattle.higra_cli.specs.declared.request.Report.TheVariants.{Tree}
+use Rattle.higra_cli.specs.declared.request.Request.{Request}
+
+-- the texts of a report without options
+abbrev pub only : List ℕ → CommandLine
+only report = record { report = report; tile = None; workers = None; kind = None; level = None; form = None; make = None; seed = None }
+
+-- the request for a tree, by so many workers
+abbrev pub tree_in : ℕ → ℕ → Request
+tree_in tile workers = record { report = Tree; tile = tile; workers = workers; form = Text; made = None }

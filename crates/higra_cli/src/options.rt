@@ -1,0 +1,95 @@
+// The values of the options, each in its row. None says that the text is no value of the option.
+ghost use Rattle.std.specs.Prelude.{◌≡◌, ◌≤◌, IfSome, option_map};
+ghost use Rattle.std.specs.Char.{is_ascii_digit};
+ghost use Rattle.std.specs.List.{list_all};
+ghost use Rattle.higra_cli.specs.Request.{form_by, form_named, is_number, number, number_in, tile_by, workers_by};
+
+use super::request::Form;
+
+// The most digits of a number.
+const MOST_DIGITS: usize = 20;
+
+/// `--tile`: the greatest number of vertices in a tile of an edge list, or the side of a tile of a picture.
+pub(crate) fn tile_by(text: Option<&str>) -> Option<u32>
+    ensures value { result ≡ tile_by (option_map (λ s. s.now) text.entry) }
+    ensures some { IfSome result (λ tile. 1 ≤ tile) }
+    ensures most { IfSome result (λ tile. tile ≤ 1048576) }
+{
+    match text {
+        None => Some(64),
+        Some(text) => number_in(text, 1, 1_048_576),
+    }
+}
+
+/// `--workers`: how many workers merge tiles.
+pub(crate) fn workers_by(text: Option<&str>) -> Option<u32>
+    ensures value { result ≡ workers_by (option_map (λ s. s.now) text.entry) }
+    ensures some { IfSome result (λ workers. 1 ≤ workers) }
+    ensures most { IfSome result (λ workers. workers ≤ 64) }
+{
+    match text {
+        None => Some(4),
+        Some(text) => number_in(text, 1, 64),
+    }
+}
+
+/// `--form`: the form of the report.
+pub(crate) fn form_by(text: Option<&str>) -> Option<Form>
+    ensures { result ≡ form_by (option_map (λ s. s.now) text.entry) }
+{
+    match text {
+        None => Some(Form::Text),
+        Some(text) => form_named(text),
+    }
+}
+
+// The form with this name. `pgm` is one where a report takes it, and none does so far.
+fn form_named(text: &str) -> Option<Form>
+    ensures { result ≡ form_named text.now }
+{
+    if text == "text" {
+        Some(Form::Text)
+    } else {
+        None
+    }
+}
+
+// The value of a number from `least` to `most`: one to twenty digits, and no sign.
+fn number_in(text: &str, least: u32, most: u32) -> Option<u32>
+    ensures value { result ≡ number_in least most text.now }
+    ensures least { IfSome result (λ number. least ≤ number) }
+    ensures most { IfSome result (λ number. number ≤ most) }
+{
+    let number = number(text)?;
+    if u64::from(least) <= number && number <= u64::from(most) {
+        Some(number as u32)
+    } else {
+        None
+    }
+}
+
+// The value of a number.
+#[tactic(auto, using(crate::proofs::NumberLemmas::number_read))]
+fn number(text: &str) -> Option<u64>
+    ensures { result ≡ number text.now }
+{
+    if is_number(text) {
+        text.parse::<u64>().ok()
+    } else {
+        None
+    }
+}
+
+// Whether the text is one to twenty digits.
+fn is_number(text: &str) -> bool
+    ensures { result ≡ is_number text.now }
+{
+    is_digits(text.as_bytes()) && !text.is_empty() && text.len() <= MOST_DIGITS
+}
+
+// Whether each byte is a digit.
+fn is_digits(bytes: &[u8]) -> bool
+    ensures { result ≡ list_all is_ascii_digit bytes.now }
+{
+    bytes.iter().all(|byte| byte.is_ascii_digit())
+}

@@ -1,0 +1,94 @@
+-- The tables of a region: one after another they have an entry for each number and for each place.
+use Rattle.std.specs.Prelude.{◌≡◌, ℕ, zero, suc, ◌+◌, ◌-◌, ◌<◌, List, [], ◌∷◌, length, map, take, get_or, Option, Some, None}
+use Rattle.std.specs.List.{flat_map, range_with_len}
+use Rattle.std.specs.Coded.{×_prop, Unit-prop, Coded-set, coded_ℕ}
+use Rattle.node_region.specs.declared.cell.Cell.{Cell}
+use Rattle.node_region.specs.declared.chunk.State.{State}
+use Rattle.node_region.specs.declared.chunk.State.TheVariants.{Used, Free}
+use Rattle.node_region.specs.declared.chunk.Slot.{Slot}
+use Rattle.node_region.specs.declared.chunk.Place.{Place}
+use Rattle.node_region.specs.declared.chunk.Chunk.{Chunk}
+use Rattle.node_region.specs.declared.chunk.At.{At}
+use Rattle.node_region.specs.declared.chunk.FreeList.{FreeList}
+
+-- all entries of numbers, in order
+abbrev pub slots_of : List Chunk → List Slot
+slots_of chunks = flat_map (λ c. c.slots.items) chunks
+
+-- all entries of places, in order
+abbrev pub places_of : List Chunk → List Place
+places_of chunks = flat_map (λ c. c.places.items) chunks
+
+-- how many numbers stand before a table
+abbrev pub start_of : List Chunk → ℕ → ℕ
+start_of chunks k = length (slots_of (take k chunks))
+
+-- the tables begin at these numbers one after another, and each has as many places as numbers
+abbrev pub AreInRow : ℕ → List Chunk → Type 0
+AreInRow first [] = Unit {0}
+AreInRow first (c ∷ cs) = (c.first ≡ first) × ((length c.places.items ≡ length c.slots.items) × AreInRow (first + length c.slots.items) cs)
+
+pub AreInRow-prop : (first : ℕ) (chunks : List Chunk) → IsProp (AreInRow first chunks)
+AreInRow-prop first [] = Unit-prop
+AreInRow-prop first (c ∷ cs) =
+    ×_prop (Coded-set coded_ℕ c.first first) (×_prop (Coded-set coded_ℕ (length c.places.items) (length c.slots.items)) (AreInRow-prop (first + length c.slots.items) cs))
+
+-- there is such an entry
+pub record IsAt (chunks : List Chunk) (at : At) : Type 0 where
+  pub chunk : at.chunk < length chunks
+  pub index : start_of chunks at.chunk + at.index < start_of chunks (at.chunk + 1)
+
+-- the place of an entry among all
+abbrev pub number_at : List Chunk → At → ℕ
+number_at chunks at = start_of chunks at.chunk + at.index
+
+-- the entry of a number that was never taken
+abbrev pub fresh_slot : ℕ → Slot
+fresh_slot id = record { state = Free (id + 1); turn = 0; hint = None }
+
+abbrev pub fresh_slots : ℕ → ℕ → List Slot
+fresh_slots first count = map fresh_slot (range_with_len first count)
+
+-- the entry of a place with nothing above it
+abbrev pub fresh_place : Place
+fresh_place = record { leaf = None; finger = None }
+
+-- the cell, where there is one
+abbrev pub cell_of : State → Option Cell
+cell_of (Used cell) = Some cell
+cell_of (Free next) = None
+
+-- what a free number tells, or 0 for one that has a cell
+abbrev pub link_of : State → ℕ
+link_of (Used cell) = 0
+link_of (Free next) = next
+
+-- the cells of the numbers that have one
+abbrev pub cells_in : List Slot → List (Option Cell)
+cells_in slots = map (λ s. cell_of s.state) slots
+
+-- what each number tells
+abbrev pub links_in : List Slot → List ℕ
+links_in slots = map (λ s. link_of s.state) slots
+
+-- the number that a number tells
+abbrev pub next_of : ℕ → List ℕ → ℕ → ℕ
+next_of first links id = get_or links (id - first) 0
+
+-- so many numbers, each told by the one before it
+abbrev pub thread : ℕ → List ℕ → ℕ → ℕ → List ℕ
+thread first links zero head = []
+thread first links (suc k) head = head ∷ thread first links k (next_of first links head)
+
+-- the number that is reached in so many steps
+abbrev pub told_after : ℕ → List ℕ → ℕ → ℕ → ℕ
+told_after first links zero head = head
+told_after first links (suc k) head = told_after first links k (next_of first links head)
+
+-- the free numbers of a list
+abbrev pub free_in : ℕ → List Slot → FreeList → List ℕ
+free_in first slots free = thread first (links_in slots) free.count free.head
+
+-- the last free number of a list that isn't empty
+abbrev pub IsTail : ℕ → List Slot → FreeList → Type 0
+IsTail first slots free = (k : ℕ) → free.count ≡ k + 1 → told_after first (links_in slots) k free.head ≡ free.tail

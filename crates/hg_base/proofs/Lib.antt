@@ -25,3 +25,15 @@ pub mod Ranks
 pub mod Ranked
 pub mod LawForms
 pub mod Lines
+pub mod Climbs
+pub mod Tops
+pub mod Levels
+pub mod Passing
+pub mod Kept
+pub mod Weights
+pub mod Zones
+pub mod ZoneLevels
+pub mod Leasts
+pub mod KeyLabels
+pub mod Saliencies
+pub mod KeyClasses

@@ -1,1 +1,4 @@
 pub mod NodeLemmas
+pub mod PathLemmas
+pub mod ClimbLemmas
+pub mod ChildLemmas

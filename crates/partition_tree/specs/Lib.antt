@@ -1,5 +1,9 @@
 pub mod Ranked
 pub mod Forest
+pub mod Paths
+pub mod Climbs
+pub mod Children
 pub mod Joining
+pub mod ForestFields
 pub mod TreeFields
 pub mod Report

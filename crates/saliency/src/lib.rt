@@ -1,0 +1,10 @@
+//! Saliencies of edges, and the regions of a tree cut at a level.
+#![tactic(auto)]
+
+mod regions;
+mod report;
+mod values;
+
+pub use regions::cut;
+pub use report::write_saliency;
+pub use values::saliency;

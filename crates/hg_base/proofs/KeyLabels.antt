@@ -39,7 +39,7 @@ label-none keys x p = let off : has_key keys x ≡ false = rw p refl in (cond-fa
 pub label-old : (keys : List (Option ℕ)) (x y i : ℕ) → y < x → get_or keys x None ≡ Some i → get_or keys y None ≡ Some i → (key_label keys x ≡ key_label keys y) × (is_head keys x ≡ false)
 label-old keys x y i lt p q =
     let least : least_of (same_key keys) x ≡ least_of (same_key keys) y =
-        least_of-agree (same_key keys) (same_key keys) x y (one_key-from _ _ i p p) (one_key-from _ _ i q q) (λ z l. same_key-rows keys x y i p q z) in (
+    least_of-agree (same_key keys) (same_key keys) x y (one_key-from _ _ i p p) (one_key-from _ _ i q q) (λ z l. same_key-rows keys x y i p q z) in (
       cond-true (has_key keys x) _ _ (has-key keys x i p) ∙ ap (λ (e : ℕ). suc (count_below (is_head keys) e)) least ∙ sym (cond-true (has_key keys y) _ _ (has-key keys y i q)),
       and_right _ _ (false_from_ne_true (is_least (same_key keys) x) (λ h. both_ways _ (is_least-to (same_key keys) x h y lt) (one_key-from _ _ i p q))),
     )

@@ -13,7 +13,7 @@ Joined-heavier s j k x y le w = (
   w.0,
   walk-among (at_most s j) (at_most s k)
       (λ f i.
-          let p = IsIn-kept (λ (e : ListedEdge). nat_le e.weight j) f s i in
-          IsIn-filter (λ e. nat_le e.weight k) f s (le-leb f.weight k (let light : f.weight ≤ j = leb-true f.weight j p.0 in omega arith)) p.1)
+      let p = IsIn-kept (λ (e : ListedEdge). nat_le e.weight j) f s i in
+      IsIn-filter (λ e. nat_le e.weight k) f s (le-leb f.weight k (let light : f.weight ≤ j = leb-true f.weight j p.0 in omega arith)) p.1)
       x w.0 y w.1,
 )

@@ -94,9 +94,9 @@ zone-once t s f k x i j hi hj zi zj =
     let za : HasZone (zones_of t) t.leaves s (zone_number t a.0) k x = subst (λ (m : ℕ). HasZone (zones_of t) t.leaves s m k x) (sym a.1.place) zi in
     let zb : HasZone (zones_of t) t.leaves s (zone_number t b.0) k x = subst (λ (m : ℕ). HasZone (zones_of t) t.leaves s m k x) (sym b.1.place) zj in
     let same : a.0 ≡ b.0 = f.levels.once a.0 b.0 a.1.low b.1.low (λ y hy.
-        let p = zone-leaves t s f a.0 y a.1.low a.1.passes hy in
-        let q = zone-leaves t s f b.0 y b.1.low b.1.passes hy in
-        (λ u. q.0 ((zb y hy).1 ((za y hy).0 (p.1 u))), λ u. p.0 ((za y hy).1 ((zb y hy).0 (q.1 u))))) in
+    let p = zone-leaves t s f a.0 y a.1.low a.1.passes hy in
+    let q = zone-leaves t s f b.0 y b.1.low b.1.passes hy in
+    (λ u. q.0 ((zb y hy).1 ((za y hy).0 (p.1 u))), λ u. p.0 ((za y hy).1 ((zb y hy).0 (q.1 u))))) in
     sym a.1.place ∙ ap (zone_number t) same ∙ b.1.place
 
 -- a kept inner node is the last one of its altitude on its path

@@ -173,9 +173,9 @@ high-count p l (suc d) h =
     let e : l + suc d ≡ suc (l + d) = omega arith in
     let before = high-count p l d h in
     let high : length (filter (nat_le l) (passing p (suc (l + d)))) ≡ length (filter (nat_le l) (passing p (l + d))) + length (cond (p (l + d)) ((l + d) ∷ []) []) =
-        ap (λ (xs : List ℕ). length xs) (high-more p l (l + d) (omega arith)) ∙ length-append (filter (nat_le l) (passing p (l + d))) (cond (p (l + d)) ((l + d) ∷ []) []) in
+    ap (λ (xs : List ℕ). length xs) (high-more p l (l + d) (omega arith)) ∙ length-append (filter (nat_le l) (passing p (l + d))) (cond (p (l + d)) ((l + d) ∷ []) []) in
     let all : length (passing p (suc (l + d))) ≡ length (passing p (l + d)) + length (cond (p (l + d)) ((l + d) ∷ []) []) =
-        ap (λ (xs : List ℕ). length xs) (passing-suc p (l + d)) ∙ length-append (passing p (l + d)) (cond (p (l + d)) ((l + d) ∷ []) []) in
+    ap (λ (xs : List ℕ). length xs) (passing-suc p (l + d)) ∙ length-append (passing p (l + d)) (cond (p (l + d)) ((l + d) ∷ []) []) in
     rw e (omega (arith, before, high, all))
 
 -- no maker for a leaf, and one for each inner zone

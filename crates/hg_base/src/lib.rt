@@ -14,13 +14,15 @@ mod standard;
 mod text;
 #[cfg(test)]
 mod worked;
+#[cfg(test)]
+mod worked_levels;
 
 pub use fault::{Failed, FaultKind, InputFault, OutOfMemory, ReadError};
 pub use gate::{Gate, GateEvent, OpenGate};
 pub use graph::{Edge, Graph, PlacedEdge, RankedEdge, Room};
 pub use labels::Labels;
-pub use numbering::{Numbering, number_keys};
 pub use memory::{MemSink, MemSource, QuietSource, TallySink};
+pub use numbering::{Numbering, number_keys};
 pub use outside::{Sink, Source, write_all};
 pub use standard::{StdSink, StdSource};
 pub use text::{push_headed_line, push_line};

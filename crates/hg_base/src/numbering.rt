@@ -14,11 +14,7 @@ pub struct Numbering {
 
 /// Labels numbers by their keys, each of which is below `bound`: those with one key get one label, and the labels are
 /// 1, 2, .. in order of the least number with each key. A number without a key gets 0.
-pub fn number_keys(
-    alloc: Global,
-    keys: &[Option<u32>],
-    bound: u32,
-) -> Result<Numbering, AllocError>
+pub fn number_keys(alloc: Global, keys: &[Option<u32>], bound: u32) -> Result<Numbering, AllocError>
     requires few { length keys.now ≤ 1048576 }
     requires below { All (λ (key : Option ℕ). IfSome key (λ k. k < bound)) keys.now }
     ensures labels { IfOk result (λ numbering. numbering.labels.items ≡ map (key_label keys.now) (range_with_len 0 (length keys.now))) }

@@ -40,7 +40,7 @@ makers_more t i v items new inner so_far passes value pushed =
     let e : i + 1 ≡ suc i = omega arith in
     let kept_i = filter (nat_le t.leaves) (passing (keeps t) i) in
     let one : filter (nat_le t.leaves) (passing (keeps t) (suc i)) ≡ kept_i ++ i ∷ [] =
-        high-more (keeps t) t.leaves i inner ∙ ap (λ (b : Bool). kept_i ++ cond b (i ∷ []) []) passes in
+    high-more (keeps t) t.leaves i inner ∙ ap (λ (b : Bool). kept_i ++ cond b (i ∷ []) []) passes in
     pushed
     ∙ ap (λ (xs : List ℕ). xs ++ v ∷ []) so_far
     ∙ ap (λ (x : ℕ). map (maker t) kept_i ++ x ∷ []) value
@@ -54,7 +54,7 @@ makers_same t i items inner so_far fails =
     let e : i + 1 ≡ suc i = omega arith in
     let kept_i = filter (nat_le t.leaves) (passing (keeps t) i) in
     let one : filter (nat_le t.leaves) (passing (keeps t) (suc i)) ≡ kept_i ++ [] =
-        high-more (keeps t) t.leaves i inner ∙ ap (λ (b : Bool). kept_i ++ cond b (i ∷ []) []) fails in
+    high-more (keeps t) t.leaves i inner ∙ ap (λ (b : Bool). kept_i ++ cond b (i ∷ []) []) fails in
     so_far ∙ ap (map (maker t)) (sym (append-nil kept_i) ∙ sym one) ∙ ap (λ (n : ℕ). map (maker t) (filter (nat_le t.leaves) (passing (keeps t) n))) (sym e)
 
 -- the count of kept nodes goes on

@@ -7,3 +7,5 @@ mod zone_tree;
 
 pub use zone_tree::zones;
 
+#[cfg(test)]
+mod tests;

@@ -37,11 +37,7 @@ fn lists(alloc: Global, tree: &Tree) -> Result<ZoneLists, AllocError>
 }
 
 // The parents of the kept nodes, by new numbers.
-fn parents(
-    alloc: Global,
-    tree: &Tree,
-    numbers: &[u32],
-) -> Result<Vec<u32>, AllocError>
+fn parents(alloc: Global, tree: &Tree, numbers: &[u32]) -> Result<Vec<u32>, AllocError>
     requires { AreNearest tree.now numbers.now }
     ensures { IfOk result (λ parents. parents.items ≡ (zones_of tree.now).parents) }
 {

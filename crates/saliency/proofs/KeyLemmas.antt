@@ -111,7 +111,7 @@ numbered-regions t level tops keys labels count f rise a k are many =
     let with_labels : List ℕ → Labelling = λ l. record { labels = l; count = count } in
     let with_count : ℕ → Labelling = λ m. record { labels = map (key_label keys) (range_with_len 0 t.leaves); count = m } in
     let e : record { labels = labels; count = count } ≡ labelling (shares t level) t.leaves =
-        ap with_labels (are ∙ ap (λ (n : ℕ). map (key_label keys) (range_with_len 0 n)) long) ∙ ap with_count (many ∙ ap (count_below (is_head keys)) long) ∙ r.result in record {
+    ap with_labels (are ∙ ap (λ (n : ℕ). map (key_label keys) (range_with_len 0 n)) long) ∙ ap with_count (many ∙ ap (count_below (is_head keys)) long) ∙ r.result in record {
       result = e;
       fit = subst IsLabelling (sym e) r.fit;
       classes = shares-classing t level tops keys f rise a k;
@@ -123,12 +123,12 @@ pub made-regions : (t : ParentTree) (level n : ℕ) (tops part : List ℕ) (keys
     labels ≡ map (key_label slice) (range_with_len 0 (length slice)) → count ≡ count_below (is_head slice) (length slice) → AreRegions t level (record { labels = labels; count = count })
 made-regions t level n tops part keys slice labels count f rise a leaves whole same k are many =
     let keyed : AreFirstKeys t.leaves tops slice =
-        subst (λ (ks : List (Option ℕ)). AreFirstKeys t.leaves tops ks) (sym same) (subst (λ (vs : List ℕ). AreFirstKeys t.leaves vs keys) whole (subst (λ (m : ℕ). AreFirstKeys m part keys) leaves k)) in
+    subst (λ (ks : List (Option ℕ)). AreFirstKeys t.leaves tops ks) (sym same) (subst (λ (vs : List ℕ). AreFirstKeys t.leaves vs keys) whole (subst (λ (m : ℕ). AreFirstKeys m part keys) leaves k)) in
     numbered-regions t level tops slice labels count f rise a keyed are many
 
 pub made-keys : (t : ParentTree) (level n nodes : ℕ) (tops part : List ℕ) (keys slice : List (Option ℕ)) → IsForest t → AreTops t level tops → n ≡ t.leaves → part ≡ tops → slice ≡ keys → nodes ≡ length t.parents → AreFirstKeys n part keys →
     All (λ (key : Option ℕ). IfSome key (λ k. k < nodes)) slice
 made-keys t level n nodes tops part keys slice f a leaves whole same many k =
     let keyed : AreFirstKeys t.leaves tops slice =
-        subst (λ (ks : List (Option ℕ)). AreFirstKeys t.leaves tops ks) (sym same) (subst (λ (vs : List ℕ). AreFirstKeys t.leaves vs keys) whole (subst (λ (m : ℕ). AreFirstKeys m part keys) leaves k)) in
+    subst (λ (ks : List (Option ℕ)). AreFirstKeys t.leaves tops ks) (sym same) (subst (λ (vs : List ℕ). AreFirstKeys t.leaves vs keys) whole (subst (λ (m : ℕ). AreFirstKeys m part keys) leaves k)) in
     subst (λ (b : ℕ). All (λ (key : Option ℕ). IfSome key (λ j. j < b)) slice) (sym many) (keys-below t level tops slice f a keyed)

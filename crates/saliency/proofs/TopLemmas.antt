@@ -20,7 +20,7 @@ pub record AreTopsFrom (t : ParentTree) (level i : ℕ) (tops : List ℕ) : Type
 pub tops_first : (t : ParentTree) (level n : ℕ) (tops : List ℕ) → n ≡ length t.parents → tops ≡ range_with_len 0 (length t.parents) → AreTopsFrom t level n tops
 tops_first t level n tops all same =
     let own : (j : ℕ) → j < length t.parents → get_or tops j 0 ≡ j =
-        λ j h. ap (λ (xs : List ℕ). get_or xs j 0) same ∙ get_or-range_with_len 0 (length t.parents) j 0 h ∙ omega arith in record {
+    λ j h. ap (λ (xs : List ℕ). get_or xs j 0) same ∙ get_or-range_with_len 0 (length t.parents) j 0 h ∙ omega arith in record {
       one_each = ap (λ (xs : List ℕ). length xs) same ∙ length-range_with_len 0 (length t.parents);
       nodes = λ j h. subst (λ (k : ℕ). k < length t.parents) (sym (own j h)) h;
       done = λ j low high. absurd (omega arith);

@@ -5,7 +5,7 @@ use Rattle.std.specs.List.{range_with_len}
 use Rattle.std.specs.Option.{option_map_or}
 use Rattle.std.proofs.lemmas.Bool.{cases_eq}
 use Rattle.std.proofs.lemmas.List.{get_or_push, get_or_append_left}
-use Rattle.std.proofs.lemmas.List.FromFn.{get_or-map-range_with_len, map-range_with_len_more}
+use Rattle.std.proofs.lemmas.List.FromFn.{length-map-range_with_len, get_or-map-range_with_len, map-range_with_len_more}
 use Rattle.hg_base.specs.declared.graph.Edge.{Edge}
 use Rattle.hg_base.specs.Graph.{WeightedGraph, JoinsTwo, first_end, second_end}
 use Rattle.hg_base.specs.Rank.{ranked}
@@ -15,7 +15,7 @@ use Rattle.hg_base.specs.Saliencies.{saliency, saliencies}
 use Rattle.hg_base.proofs.Meeting.{lowest-weight}
 use Rattle.hg_base.proofs.Ranked.{AreApart-ranked, AreByWeight-ranked}
 use Rattle.hg_base.proofs.Saliencies.{saliency-is, saliency-only}
-use Rattle.saliency.specs.Values.{IsLowestAltitude}
+use Rattle.saliency.specs.Values.{IsLowestAltitude, AreLowestAltitudes, AreSaliencies}
 
 -- the ends of an edge that was read
 pub first-is : (g : WeightedGraph) (e : ℕ) (x : Edge) → slice_get g.edges e ≡ Some x → first_end g e ≡ x.u
@@ -30,8 +30,8 @@ lowest-saliency g e x t i k at ends h low value same =
     let a = first-is g e x at in
     let b = second-is g e x at in
     let low' : IsLowestAbove (graph_tree g) (first_end g e) (second_end g e) i =
-        subst (λ (u : ParentTree). IsLowestAbove u (first_end g e) (second_end g e) i) same
-        (subst (λ (m : ℕ). IsLowestAbove t m (second_end g e) i) (sym a) (subst (λ (m : ℕ). IsLowestAbove t x.u m i) (sym b) low)) in
+    subst (λ (u : ParentTree). IsLowestAbove u (first_end g e) (second_end g e) i) same
+    (subst (λ (m : ℕ). IsLowestAbove t m (second_end g e) i) (sym a) (subst (λ (m : ℕ). IsLowestAbove t x.u m i) (sym b) low)) in
     let least = lowest-weight g.n (ranked g) (AreApart-ranked g) (AreByWeight-ranked g) (first_end g e) (second_end g e) i
     (subst (λ (m : ℕ). m < g.n) (sym a) ends.u) (subst (λ (m : ℕ). m < g.n) (sym b) ends.v) low' in
     value ∙ ap (λ (u : ParentTree). altitude u i) same ∙ saliency-only g e (altitude (graph_tree g) i) h least
@@ -67,9 +67,19 @@ values_more g t e v values new a low own pushed = subst (AreValuesTo g t (e + 1)
 pub values_first : (g : WeightedGraph) (t : ParentTree) → AreValuesTo g t 0 []
 values_first g t = record { one_each = refl; lowest = λ j h. absurd (omega arith); saliencies = λ same. refl }
 
+-- all edges have their values
+pub lowest-all : (g : WeightedGraph) (t : ParentTree) (e : ℕ) (values : List ℕ) → e ≡ length g.edges → AreValuesTo g t e values → AreLowestAltitudes g t values
+lowest-all g t e values all a = record { one_each = a.one_each ∙ all; each = λ j h. a.lowest j (omega arith) }
+
+pub saliencies-all : (g : WeightedGraph) (t : ParentTree) (e : ℕ) (values : List ℕ) → e ≡ length g.edges → AreValuesTo g t e values → t ≡ graph_tree g → values ≡ saliencies g
+saliencies-all g t e values all a same = a.saliencies same ∙ ap (λ (n : ℕ). map (saliency g) (range_with_len 0 n)) all
+
 -- where the list is that of the saliencies, each value is one
-pub each-saliency : (g : WeightedGraph) (values : List ℕ) → values ≡ saliencies g → (e : ℕ) → e < length g.edges → IsSaliency g e (get_or values e 0)
-each-saliency g values same e h =
-    subst (λ (k : ℕ). IsSaliency g e k)
-    (sym (ap (λ (xs : List ℕ). get_or xs e 0) same ∙ get_or-map-range_with_len (saliency g) 0 (length g.edges) e e 0 h (omega arith)))
-    (saliency-is g e h)
+pub each-saliency : (g : WeightedGraph) (values : List ℕ) → values ≡ saliencies g → AreSaliencies g values
+each-saliency g values same = record {
+  one_each = ap (λ (xs : List ℕ). length xs) same ∙ length-map-range_with_len (saliency g) 0 (length g.edges);
+  each = λ e h.
+      subst (λ (k : ℕ). IsSaliency g e k)
+      (sym (ap (λ (xs : List ℕ). get_or xs e 0) same ∙ get_or-map-range_with_len (saliency g) 0 (length g.edges) e e 0 h (omega arith)))
+      (saliency-is g e h);
+}

@@ -8,3 +8,6 @@ mod values;
 pub use regions::cut;
 pub use report::write_saliency;
 pub use values::saliency;
+
+#[cfg(test)]
+mod tests;

@@ -1,10 +1,8 @@
-ghost use Rattle.std.specs.Prelude.{◌≡◌, ℕ, ◌<◌, length, vec_len, get_or, IfOk};
+ghost use Rattle.std.specs.Prelude.{◌≡◌, ◌<◌, length, IfOk};
 ghost use Rattle.hg_base.specs.Graph.{first_end, second_end};
 ghost use Rattle.hg_base.specs.Tree.{graph_tree};
-ghost use Rattle.hg_base.specs.Saliency.{IsSaliency};
 ghost use Rattle.hg_base.specs.Saliencies.{saliency, saliencies};
-ghost use Rattle.partition_tree.specs.Paths.{ShareRoot};
-ghost use Rattle.saliency.specs.Values.{IsLowestAltitude, EndsShareRoots, AreLowestAltitudes};
+ghost use Rattle.saliency.specs.Values.{IsLowestAltitude, EndsShareRoots, AreLowestAltitudes, AreSaliencies};
 
 use hg_base::{Graph, OutOfMemory};
 use partition_tree::Tree;
@@ -16,10 +14,9 @@ use std::alloc::{AllocError, Global};
 pub fn saliency(alloc: Global, graph: &Graph, tree: &Tree) -> Result<Vec<u64>, OutOfMemory>
     requires leaves { tree.now.leaves ≡ graph.now.n }
     requires roots { EndsShareRoots graph.now tree.now }
-    ensures one_each { IfOk result (λ values. vec_len values ≡ length graph.now.edges) }
     ensures lowest { IfOk result (λ values. AreLowestAltitudes graph.now tree.now values.items) }
+    ensures least { tree.now ≡ graph_tree graph.now → IfOk result (λ values. AreSaliencies graph.now values.items) }
     ensures saliencies { tree.now ≡ graph_tree graph.now → IfOk result (λ values. values.items ≡ saliencies graph.now) }
-    ensures least { tree.now ≡ graph_tree graph.now → IfOk result (λ values. (e : ℕ) → e < length graph.now.edges → IsSaliency graph.now e (get_or values.items e 0)) }
 {
     values(alloc, graph, tree).map_err(|_| OutOfMemory)
 }
@@ -27,8 +24,8 @@ pub fn saliency(alloc: Global, graph: &Graph, tree: &Tree) -> Result<Vec<u64>, O
 fn values(alloc: Global, graph: &Graph, tree: &Tree) -> Result<Vec<u64>, AllocError>
     requires leaves { tree.now.leaves ≡ graph.now.n }
     requires roots { EndsShareRoots graph.now tree.now }
-    ensures one_each { IfOk result (λ values. vec_len values ≡ length graph.now.edges) }
     ensures lowest { IfOk result (λ values. AreLowestAltitudes graph.now tree.now values.items) }
+    ensures least { tree.now ≡ graph_tree graph.now → IfOk result (λ values. AreSaliencies graph.now values.items) }
     ensures saliencies { tree.now ≡ graph_tree graph.now → IfOk result (λ values. values.items ≡ saliencies graph.now) }
 {
     let mut values = Vec::with_capacity(alloc, graph.m() as usize)?;

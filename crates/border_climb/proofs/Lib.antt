@@ -1,2 +1,15 @@
-pub mod SlotLemmas
-pub mod ViewLemmas
+pub mod Linked
+pub mod Merging
+pub mod Closing
+pub mod Opening
+pub mod Pools
+pub mod Ways
+pub mod Seams
+pub mod Writes
+pub mod Counting
+pub mod Opens
+pub mod Splices
+pub mod Parts
+pub mod Lots
+pub mod Uniting
+pub mod Checked

@@ -1,22 +1,13 @@
 -- What the fields of a part stand for.
-use Rattle.std.specs.Prelude.{◌+◌, List, length, map, Option, Some, None}
-use Rattle.border_climb.specs.Slots.{reached}
-use Rattle.border_climb.specs.Chains.{Chains, ChainCell}
-use Rattle.border_climb.specs.declared.links.Slot.{Slot}
-use Rattle.border_climb.specs.declared.links.Slot.TheVariants.{Used, Free}
+use Rattle.std.specs.Prelude.{◌≤◌, ◌*◌, ◌+◌, vec_capacity}
+use Rattle.border_climb.specs.Stands.{PartState}
+use Rattle.border_climb.specs.Notes.{IsSound}
 use Rattle.border_climb.specs.declared.part.Part.TheInside.{Inside}
 
--- the cell in a slot; what stands above it has a higher rank
-abbrev pub cell_in : List Slot → Slot → Option ChainCell
-cell_in slots (Used cell) = Some (record { rank = cell.rank; up = reached slots (cell.rank + 1) cell.up })
-cell_in slots (Free next) = None
+abbrev pub part_of : Inside → PartState
+part_of p = record { region = p.region; lots = p.lots.items; given = p.given }
 
-abbrev pub chains_of : Inside → Chains
-chains_of p = record {
-  first = 0;
-  count = length p.links.places.items;
-  lots = p.lots.items;
-  given = p.given;
-  above = map (reached p.links.slots.items 0) p.links.places.items;
-  cells = map (cell_in p.links.slots.items) p.links.slots.items;
-}
+-- links and notes are sound, and each part that the room allows has its place in the list of lots
+pub record IsPart (p : Inside) : Type 0 where
+  pub sound : IsSound p.region
+  pub reserved : 2 * p.region.room.chunks ≤ vec_capacity p.lots + 1

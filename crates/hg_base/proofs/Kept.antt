@@ -1,11 +1,11 @@
 -- Which nodes the zones keep, and the nearest kept ancestor of a node.
-use Rattle.std.proofs.Common.{◌≡◌, ℕ, zero, suc, ◌+◌, ◌<◌, ◌≤◌, Bool, true, false, cond, ◌⊎◌, inl, inr, refl, sym, ◌∙◌, subst, ap, arith, length, map}
-use Rattle.std.specs.Prelude.{Option, Some, find, unwrap_or, not, ◌==◌}
+use Rattle.std.proofs.Common.{◌≡◌, ℕ, zero, suc, ◌+◌, ◌<◌, ◌≤◌, Bool, true, false, inl, inr, refl, sym, ◌∙◌, subst, ap, arith, length, map}
+use Rattle.std.specs.Prelude.{Option, Some, find, unwrap_or}
 use Rattle.std.specs.List.{range_with_len}
-use Rattle.std.proofs.lemmas.Bool.{cases_Bool, cases_lt, cases_order, cases_eq, true≢false, both_ways, lt-ltb, ltb-false, eq-eqb, eqb-true, eqb-false, ne_eqb, or_left, or_right, or_parts, not_from_false, not-false, cond-true, cond-false}
+use Rattle.std.proofs.lemmas.Bool.{cases_Bool, cases_order, cases_eq, true≢false, both_ways, lt-ltb, ltb-false, eq-eqb, eqb-true, eqb-false, ne_eqb, or_left, or_right, or_parts, not_from_false, not-false, cond-true, cond-false}
 use Rattle.hg_base.specs.Tree.{ParentTree, parent, altitude, ancestor, IsAbove}
 use Rattle.hg_base.specs.Levels.{IsClimbing}
-use Rattle.hg_base.specs.Zones.{keeps, ancestors, next_kept, nearest}
+use Rattle.hg_base.specs.Zones.{keeps, next_kept, nearest}
 use Rattle.hg_base.proofs.Climbs.{ancestor-first}
 
 pub keeps-leaf : (t : ParentTree) (i : ℕ) → i < t.leaves → keeps t i ≡ true

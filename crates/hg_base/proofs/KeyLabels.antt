@@ -1,16 +1,16 @@
 -- Labels by keys, number after number: what is noted of each key.
-use Rattle.std.proofs.Common.{◌≡◌, ℕ, zero, suc, ◌+◌, ◌<◌, ◌≤◌, Bool, true, false, cond, ◌⊎◌, inl, inr, refl, sym, ◌∙◌, subst, ap, arith, List, length, length-set, get_or, set, replicate, take, drop, ◌++◌, ◌∷◌, [], map}
+use Rattle.std.proofs.Common.{◌≡◌, ℕ, zero, suc, ◌+◌, ◌<◌, Bool, true, false, cond, ◌⊎◌, inl, inr, refl, sym, ◌∙◌, subst, ap, arith, List, length, length-set, get_or, set, replicate, take, drop, ◌++◌, ◌∷◌, [], map}
 use Rattle.std.specs.List.{range_with_len}
 use Rattle.std.proofs.lemmas.List.FromFn.{map-range_with_len_more}
 use Rattle.std.proofs.Math.Seq.{take-append_seam}
-use Rattle.std.specs.Prelude.{Option, Some, None, ◌&&◌, All, IfSome}
+use Rattle.std.specs.Prelude.{Option, Some, None, All, IfSome}
 use Rattle.std.specs.Option.{is_some}
-use Rattle.std.proofs.lemmas.Bool.{cases_Bool, cases_order, cases_eq, both_ways, true≢false, false_from_ne_true, eqb-true, eq-eqb, and_from, and_left, and_right, cond-true, cond-false}
+use Rattle.std.proofs.lemmas.Bool.{cases_order, both_ways, true≢false, false_from_ne_true, eqb-true, eq-eqb, and_from, and_left, and_right, cond-true, cond-false}
 use Rattle.std.proofs.lemmas.List.{get_or-set_same, get_or-set_other}
 use Rattle.hg_base.specs.Edges.{count_below, is_least}
 use Rattle.hg_base.specs.Labels.{least_of}
 use Rattle.hg_base.specs.Numbering.{is_one_key, has_key, same_key, is_head, key_label, AreNumbers}
-use Rattle.hg_base.proofs.Counts.{LeastBelow, least_below, is_least-from, is_least-to}
+use Rattle.hg_base.proofs.Counts.{least_below, is_least-from, is_least-to}
 use Rattle.hg_base.proofs.Leasts.{least_of-fresh, least_of-agree}
 
 -- equal keys are one

@@ -1,13 +1,13 @@
 -- The least member of a class, and labels by it.
-use Rattle.std.proofs.Common.{◌≡◌, ℕ, zero, suc, ◌+◌, ◌<◌, ◌≤◌, Bool, true, false, cond, ◌⊎◌, inl, inr, refl, sym, ◌∙◌, subst, ap, arith, List, [], ◌∷◌, length, map, All}
+use Rattle.std.proofs.Common.{◌≡◌, ℕ, zero, suc, ◌+◌, ◌<◌, ◌≤◌, Bool, true, false, ◌⊎◌, inl, inr, refl, sym, ◌∙◌, subst, ap, arith, List, length, map}
 use Rattle.std.specs.Prelude.{Option, Some, find, unwrap_or, ◌==◌}
 use Rattle.std.specs.List.{range_with_len}
-use Rattle.std.proofs.lemmas.Bool.{cases_Bool, cases_order, both_ways, true≢false}
+use Rattle.std.proofs.lemmas.Bool.{cases_Bool, cases_order, both_ways}
 use Rattle.std.proofs.lemmas.List.FromFn.{length-map-range_with_len, get_or-map-range_with_len}
 use Rattle.hg_base.specs.Edges.{count_below, is_least}
 use Rattle.hg_base.specs.Labels.{Labelling, IsLabel, IsLabelling, least_of, class_label, labelling}
-use Rattle.hg_base.proofs.Counts.{count_below-agree, is_least-from, is_least-to}
-use Rattle.hg_base.proofs.Passing.{count_below-rises, count_below-most}
+use Rattle.hg_base.proofs.Counts.{count_below-agree, is_least-from}
+use Rattle.hg_base.proofs.Passing.{count_below-rises}
 
 -- the first number from a on that passes
 pub record FirstOf (p : ℕ → Bool) (a n : ℕ) : Type 0 where

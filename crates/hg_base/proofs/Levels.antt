@@ -1,12 +1,12 @@
 -- The tree of an edge list whose weights don't fall with the rank: its nodes tell who is joined by the edges of weight at most k.
-use Rattle.std.proofs.Common.{◌≡◌, ℕ, suc, ◌+◌, ◌<◌, ◌≤◌, true, ◌⊎◌, inl, inr, refl, sym, ◌∙◌, subst, ap, arith, [], ◌∷◌, length}
-use Rattle.std.specs.Prelude.{◌↔◌, nat_le}
+use Rattle.std.proofs.Common.{◌≡◌, ℕ, suc, ◌<◌, ◌≤◌, true, ◌⊎◌, inl, inr, refl, sym, ◌∙◌, subst, ap, arith, [], ◌∷◌}
+use Rattle.std.specs.Prelude.{nat_le}
 use Rattle.std.proofs.lemmas.Bool.{cases_lt, le-leb, leb-true}
-use Rattle.hg_base.specs.Edges.{ListedEdge, EdgeList, IsIn, AreApart, AreWithin, Joined, joined, below, joins}
-use Rattle.hg_base.specs.Tree.{IsAbove, ancestor, altitude, place, tree_of}
+use Rattle.hg_base.specs.Edges.{ListedEdge, EdgeList, IsIn, AreApart, AreWithin, Joined, joined, below}
+use Rattle.hg_base.specs.Tree.{IsAbove, ancestor, altitude, tree_of}
 use Rattle.hg_base.specs.Saliency.{at_most, AreByWeight}
 use Rattle.hg_base.specs.Levels.{IsLevelTree}
-use Rattle.hg_base.proofs.Walks.{IsSame-joined, joined-walk, Joined-joined}
+use Rattle.hg_base.proofs.Walks.{IsSame-joined, Joined-joined}
 use Rattle.hg_base.proofs.Members.{IsIn-filter, IsIn-kept, IsIn-below, IsIn-below_kept}
 use Rattle.hg_base.proofs.Sets.{joined-among, joined_below-more, IsIn-joins_kept}
 use Rattle.hg_base.proofs.Fronts.{joined-first_front}

@@ -12,6 +12,8 @@ pub mod Components
 pub mod Nodes
 pub mod Paths
 pub mod FrontTree
+pub mod TreeNodes
+pub mod BelowRanks
 pub mod FrontOnce
 pub mod Meeting
 pub mod SideBySide
@@ -37,3 +39,5 @@ pub mod Leasts
 pub mod KeyLabels
 pub mod Saliencies
 pub mod KeyClasses
+pub mod CountMore
+pub mod Ends

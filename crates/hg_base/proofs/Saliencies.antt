@@ -1,8 +1,8 @@
 -- The saliency of an edge is the least number k such that the edges of weight at most k join its ends.
-use Rattle.std.proofs.Common.{◌≡◌, ℕ, suc, ◌+◌, ◌<◌, ◌≤◌, true, inl, inr, refl, sym, ◌∙◌, ap, arith, length}
+use Rattle.std.proofs.Common.{◌≡◌, ℕ, suc, ◌<◌, true, inl, inr, ◌∙◌, ap, arith, length}
 use Rattle.std.specs.Prelude.{Option, unwrap_or, nat_le}
 use Rattle.std.proofs.lemmas.Bool.{cases_lt, both_ways, le-leb}
-use Rattle.hg_base.specs.Graph.{WeightedGraph, IsGraph, first_end, second_end, weight}
+use Rattle.hg_base.specs.Graph.{WeightedGraph, first_end, second_end, weight}
 use Rattle.hg_base.specs.Edges.{ListedEdge, EdgeList, joined}
 use Rattle.hg_base.specs.Rank.{rank, listed, ranked}
 use Rattle.hg_base.specs.Saliency.{at_most, IsLeastJoining, IsSaliency}

@@ -1,15 +1,13 @@
 -- The last node of a path up to a level, and which leaves share a node of that level.
-use Rattle.std.proofs.Common.{◌≡◌, ℕ, zero, suc, ◌+◌, ◌<◌, ◌≤◌, Bool, true, false, ◌⊎◌, inl, inr, refl, sym, ◌∙◌, subst, ap, arith, length, get_or}
+use Rattle.std.proofs.Common.{◌≡◌, ℕ, zero, suc, ◌+◌, ◌<◌, ◌≤◌, Bool, true, ◌⊎◌, inl, inr, refl, sym, ◌∙◌, subst, ap, arith, length, get_or}
 use Rattle.std.specs.Prelude.{◌↔◌, ◌==◌, ◌&&◌, nat_le}
 use Rattle.std.specs.List.{range_with_len, list_any}
 use Rattle.std.proofs.lemmas.Bool.{cases_lt, cases_eq, eqb-true, eq-eqb, le-leb, leb-true, and_parts, and_from}
 use Rattle.std.proofs.lemmas.List.Folds.{list_any_at, Any-from_list_any}
 use Rattle.std.proofs.lemmas.List.FromFn.{length-range_with_len, get_or-range_with_len}
-use Rattle.hg_base.specs.Edges.{EdgeList, Joined, joined}
-use Rattle.hg_base.specs.Saliency.{at_most}
 use Rattle.hg_base.specs.Tree.{ParentTree, parent, altitude, ancestor, IsAbove}
 use Rattle.hg_base.specs.Levels.{IsClimbing, AltitudesRise, Shares, is_above, shares, IsTop}
-use Rattle.hg_base.proofs.Climbs.{ancestor-root, ancestor-first, above-on, above-next, above-either, above-within, above-same, above-altitude, ancestor-short}
+use Rattle.hg_base.proofs.Climbs.{ancestor-root, above-on, above-next, above-either, above-within, above-same, above-altitude, ancestor-short}
 
 -- a number of a range that passes makes the range's test true
 any_in_range : (p : ℕ → Bool) (n i : ℕ) → i < n → p i ≡ true → list_any p (range_with_len 0 n) ≡ true

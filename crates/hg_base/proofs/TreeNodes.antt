@@ -1,13 +1,13 @@
 -- The nodes of the tree of an edge list one by one, and the fronts that hold the edges up to a weight.
-use Rattle.std.proofs.Common.{◌≡◌, ℕ, zero, suc, ◌+◌, ◌-◌, ◌<◌, ◌≤◌, true, ◌⊎◌, inl, inr, refl, sym, ◌∙◌, subst, ap, arith, [], ◌∷◌, length, map}
+use Rattle.std.proofs.Common.{◌≡◌, ℕ, suc, ◌+◌, ◌-◌, ◌<◌, ◌≤◌, ◌⊎◌, inl, inr, refl, subst, ap, arith, [], ◌∷◌, length}
 use Rattle.std.specs.Prelude.{Option, Some, None, nat_le}
 use Rattle.std.proofs.lemmas.Option.{slice_get_within}
 use Rattle.std.proofs.lemmas.Bool.{cases_order, le-leb, leb-true}
-use Rattle.hg_base.specs.Edges.{ListedEdge, EdgeList, IsIn, IsSameSet, AreApart, AreWithin, Joined, below, joins, next}
-use Rattle.hg_base.specs.Tree.{parent, altitude, IsAbove, place, node_or, tree_of, HasComponent, IsFrontTree}
+use Rattle.hg_base.specs.Edges.{ListedEdge, EdgeList, IsIn, IsSameSet, AreApart, below, joins, next}
+use Rattle.hg_base.specs.Tree.{parent, place, node_or, tree_of}
 use Rattle.hg_base.specs.Saliency.{at_most, AreByWeight}
 use Rattle.hg_base.proofs.Members.{IsIn-filter, IsIn-kept, IsIn-below, IsIn-below_kept}
-use Rattle.hg_base.proofs.Sets.{IsIn-joins, IsIn-joins_kept}
+use Rattle.hg_base.proofs.Sets.{IsIn-joins}
 use Rattle.hg_base.proofs.Fronts.{apart-one}
 use Rattle.hg_base.proofs.Leaving.{leaves}
 use Rattle.hg_base.proofs.Next.{IsFirst, next-first}
@@ -92,43 +92,67 @@ pub highest : (l : EdgeList) → ((f : ListedEdge) → IsIn f l → ⊥) ⊎ ((e
 highest [] = inl (λ f i. i)
 highest (g ∷ l) =
     elim (highest l) [
-      | inl none' ↦ inr (g, (inl refl, λ f i. elim i as (λ _. f.rank ≤ g.rank) [
-        | inl same ↦ (let q : g.rank ≡ f.rank = ap (λ (x : ListedEdge). x.rank) same in omega arith)
-        | inr later ↦ absurd (none' f later)
-      ]))
+      | inl none' ↦ inr (
+        g,
+        (
+          inl refl,
+          λ f i. elim i as (λ _. f.rank ≤ g.rank) [
+            | inl same ↦ (let q : g.rank ≡ f.rank = ap (λ (x : ListedEdge). x.rank) same in omega arith)
+            | inr later ↦ absurd (none' f later)
+          ],
+        ),
+      )
       | inr top ↦ elim (cases_order g.rank top.0.rank) [
         | inl level ↦ inr (lower top.0 top.1.0 top.1.1 (omega arith))
         | inr other ↦ elim other [
           | inl low ↦ inr (lower top.0 top.1.0 top.1.1 (omega arith))
-          | inr high ↦ inr (g, (inl refl, λ f i. elim i as (λ _. f.rank ≤ g.rank) [
-            | inl same ↦ (let q : g.rank ≡ f.rank = ap (λ (x : ListedEdge). x.rank) same in omega arith)
-            | inr later ↦ (let q : f.rank ≤ top.0.rank = top.1.1 f later in omega arith)
-          ]))
+          | inr high ↦ inr (
+            g,
+            (
+              inl refl,
+              λ f i. elim i as (λ _. f.rank ≤ g.rank) [
+                | inl same ↦ (let q : g.rank ≡ f.rank = ap (λ (x : ListedEdge). x.rank) same in omega arith)
+                | inr later ↦ (let q : f.rank ≤ top.0.rank = top.1.1 f later in omega arith)
+              ],
+            ),
+          )
         ]
       ]
     ]
   where
     lower : (e : ListedEdge) → IsIn e l → ((f : ListedEdge) → IsIn f l → f.rank ≤ e.rank) → g.rank ≤ e.rank → (e : ListedEdge) × (IsIn e (g ∷ l) × ((f : ListedEdge) → IsIn f (g ∷ l) → f.rank ≤ e.rank))
-    lower e i most le = (e, (inr i, λ f j. elim j as (λ _. f.rank ≤ e.rank) [
-      | inl same ↦ (let q : g.rank ≡ f.rank = ap (λ (x : ListedEdge). x.rank) same in omega arith)
-      | inr later ↦ most f later
-    ]))
+    lower e i most le = (
+      e,
+      (
+        inr i,
+        λ f j. elim j as (λ _. f.rank ≤ e.rank) [
+          | inl same ↦ (let q : g.rank ≡ f.rank = ap (λ (x : ListedEdge). x.rank) same in omega arith)
+          | inr later ↦ most f later
+        ],
+      ),
+    )
 
 -- the edges of weight at most k are those of a front
 pub weights-front : (s : EdgeList) → AreApart s → AreByWeight s → (k : ℕ) → (r : ℕ) × IsSameSet (at_most s k) (below s r)
 weights-front s h by k =
     elim (highest (at_most s k)) [
-      | inl none' ↦ (0, record {
-        on = λ f i. absurd (none' f i);
-        back = λ f i. absurd (let p : f.rank < 0 = (IsIn-below_kept f s 0 i).1 in omega arith);
-      })
-      | inr top ↦ (suc top.0.rank, record {
-        on = λ f i. (let p = IsIn-kept (λ (g : ListedEdge). nat_le g.weight k) f s i in
-            IsIn-below f s (suc top.0.rank) p.1 (let q : f.rank ≤ top.0.rank = top.1.1 f i in omega arith));
-        back = λ f i. (let p = IsIn-below_kept f s (suc top.0.rank) i in
-            let t = IsIn-kept (λ (g : ListedEdge). nat_le g.weight k) top.0 s top.1.0 in
-            let light : top.0.weight ≤ k = leb-true top.0.weight k t.0 in
-            let up : f.weight ≤ top.0.weight = up_to-weight s h by top.0 f t.1 p.0 p.1 in
-            IsIn-filter (λ (g : ListedEdge). nat_le g.weight k) f s (le-leb f.weight k (omega arith)) p.0);
-      })
+      | inl none' ↦ (
+        0,
+        record {
+          on = λ f i. absurd (none' f i);
+          back = λ f i. absurd (let p : f.rank < 0 = (IsIn-below_kept f s 0 i).1 in omega arith);
+        },
+      )
+      | inr top ↦ (
+        suc top.0.rank,
+        record {
+          on = λ f i. (let p = IsIn-kept (λ (g : ListedEdge). nat_le g.weight k) f s i in
+              IsIn-below f s (suc top.0.rank) p.1 (let q : f.rank ≤ top.0.rank = top.1.1 f i in omega arith));
+          back = λ f i. (let p = IsIn-below_kept f s (suc top.0.rank) i in
+              let t = IsIn-kept (λ (g : ListedEdge). nat_le g.weight k) top.0 s top.1.0 in
+              let light : top.0.weight ≤ k = leb-true top.0.weight k t.0 in
+              let up : f.weight ≤ top.0.weight = up_to-weight s h by top.0 f t.1 p.0 p.1 in
+              IsIn-filter (λ (g : ListedEdge). nat_le g.weight k) f s (le-leb f.weight k (omega arith)) p.0);
+        },
+      )
     ]

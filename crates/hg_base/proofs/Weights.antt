@@ -1,5 +1,5 @@
 -- Who is joined by the edges of weight at most k.
-use Rattle.std.proofs.Common.{◌≡◌, ℕ, ◌≤◌, arith}
+use Rattle.std.proofs.Common.{ℕ, ◌≤◌, arith}
 use Rattle.std.specs.Prelude.{nat_le}
 use Rattle.std.proofs.lemmas.Bool.{le-leb, leb-true}
 use Rattle.hg_base.specs.Edges.{ListedEdge, EdgeList, Joined}

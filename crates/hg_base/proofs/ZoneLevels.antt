@@ -1,5 +1,5 @@
 -- The zones of a level tree are the zones of its edges.
-use Rattle.std.proofs.Common.{◌≡◌, ℕ, suc, ◌+◌, ◌<◌, ◌≤◌, true, ◌⊎◌, inl, inr, refl, sym, ◌∙◌, subst, ap, arith, [], length}
+use Rattle.std.proofs.Common.{◌≡◌, ℕ, ◌<◌, ◌≤◌, true, inl, inr, refl, sym, ◌∙◌, subst, ap, arith, [], length}
 use Rattle.std.specs.Prelude.{◌↔◌}
 use Rattle.std.proofs.lemmas.Bool.{cases_lt}
 use Rattle.hg_base.specs.Edges.{EdgeList, Joined, joined}
@@ -7,7 +7,6 @@ use Rattle.hg_base.specs.Saliency.{at_most}
 use Rattle.hg_base.specs.Tree.{ParentTree, parent, altitude, ancestor, IsAbove}
 use Rattle.hg_base.specs.Levels.{IsClimbing, AltitudesRise, Shares, shares, IsTop, IsLevelTree}
 use Rattle.hg_base.specs.Zones.{keeps, zone_number, zones_of, HasZone, AreZones}
-use Rattle.hg_base.proofs.Members.{IsIn-filter, IsIn-kept}
 use Rattle.hg_base.proofs.Sets.{same_test}
 use Rattle.hg_base.proofs.Walks.{Joined-joined}
 use Rattle.hg_base.proofs.Drops.{holds}

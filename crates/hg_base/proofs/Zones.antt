@@ -1,6 +1,6 @@
 -- The zones of a tree: where each kept node went, who is above whom, and that they are a forest.
 use Rattle.std.proofs.Common.{◌≡◌, ℕ, zero, suc, ◌+◌, ◌-◌, ◌<◌, ◌≤◌, Bool, true, false, ◌⊎◌, inl, inr, cond, refl, sym, ◌∙◌, subst, ap, arith, List, [], ◌∷◌, ◌++◌, length, length-append, map}
-use Rattle.std.specs.Prelude.{◌↔◌, Option, slice_get, unwrap_or, filter, nat_le}
+use Rattle.std.specs.Prelude.{◌↔◌, Option, unwrap_or, filter, nat_le}
 use Rattle.std.proofs.lemmas.Bool.{cases_lt, cases_eq, both_ways, le-leb, lt-leb}
 use Rattle.std.proofs.lemmas.List.{length-map}
 use Rattle.std.proofs.lemmas.List.Elements.{filter-append}
@@ -11,7 +11,7 @@ use Rattle.hg_base.proofs.Nodes.{slice_get-mapped}
 use Rattle.hg_base.proofs.Counts.{count_below-all}
 use Rattle.hg_base.proofs.Climbs.{ancestor-add, above-on, above-within, above-rises, ancestor-within}
 use Rattle.hg_base.proofs.Passing.{IsPassing, passing, passing-suc, length-passing, passing-at, passing-index, count_below-grows, count_below-rises, count_below-one}
-use Rattle.hg_base.proofs.Kept.{keeps-leaf, keeps-root, IsNextKept, next_kept-is, next_kept-above}
+use Rattle.hg_base.proofs.Kept.{keeps-leaf, next_kept-is, next_kept-above}
 
 -- as many zones as kept nodes
 pub length-zones : (t : ParentTree) → length (zones_of t).parents ≡ zone_number t (length t.parents)

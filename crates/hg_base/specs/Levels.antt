@@ -1,5 +1,5 @@
 -- A tree cut at a level: which leaves share a node of low altitude, and what that has to do with the edges of low weight.
-use Rattle.std.specs.Prelude.{◌≡◌, ◌↔◌, ℕ, suc, ◌==◌, ◌<◌, ◌≤◌, ◌⊎◌, Bool, ◌&&◌, length, nat_le}
+use Rattle.std.specs.Prelude.{◌≡◌, ◌↔◌, ℕ, ◌==◌, ◌<◌, ◌≤◌, ◌⊎◌, Bool, ◌&&◌, length, nat_le}
 use Rattle.std.specs.List.{range_with_len, list_any}
 use Rattle.hg_base.specs.Edges.{EdgeList, Joined}
 use Rattle.hg_base.specs.Tree.{ParentTree, parent, altitude, ancestor, IsAbove}

@@ -17,3 +17,4 @@ pub mod Levels
 pub mod Zones
 pub mod Numbering
 pub mod Saliencies
+pub mod Rising

@@ -50,3 +50,6 @@ fn label_at(keys: &[Option<u32>], x: usize, numbers: &mut [u32], count: &mut u32
     numbers[key as usize] = *count;
     *count
 }
+
+#[cfg(test)]
+mod tests;

@@ -1,14 +1,16 @@
 -- The edges of a list, with the place as rank.
-use Rattle.std.proofs.Common.{◌≡◌, ◌≢◌, ℕ, zero, suc, ◌+◌, ◌<◌, ◌≤◌, ◌⊎◌, inl, inr, refl, sym, ◌∙◌, subst, ap, arith, List, [], ◌∷◌, length, map, get_or}
-use Rattle.std.specs.Prelude.{All, Option, Some, None, slice_get}
+use Rattle.std.proofs.Common.{◌≡◌, ℕ, zero, suc, ◌+◌, ◌<◌, ◌≤◌, inl, inr, refl, sym, ◌∙◌, subst, ap, arith, List, [], ◌∷◌, length, map, get_or}
+use Rattle.std.specs.Prelude.{Option, Some, slice_get}
 use Rattle.std.specs.Option.{option_map_or}
 use Rattle.std.specs.List.{range_with_len}
 use Rattle.std.proofs.lemmas.Bool.{cases_order}
-use Rattle.std.proofs.lemmas.Option.{slice_get_cases}
+use Rattle.std.proofs.lemmas.Option.{slice_get_cases, slice_get-get_or}
 use Rattle.std.proofs.lemmas.List.Elements.{All-get_or}
 use Rattle.std.proofs.lemmas.List.FromFn.{length-map-range_with_len}
-use Rattle.hg_base.specs.Edges.{ListedEdge, EdgeList, IsIn, IsSameSet, AreApart, AreWithin}
+use Rattle.hg_base.specs.Edges.{ListedEdge, IsIn, IsSameSet, AreApart, AreWithin}
 use Rattle.hg_base.specs.Saliency.{AreByWeight}
+use Rattle.hg_base.specs.Placed.{placed}
+use Rattle.border_climb.specs.Stands.{IsNewRank}
 use Rattle.partition_tree.specs.declared.list.Ranked.{Ranked}
 use Rattle.partition_tree.specs.Ranked.{JoinsTwo, IsRankedList, edge_at, edges_of, first_edges}
 
@@ -74,8 +76,11 @@ edges-apart list = go 0 (length list)
   where
     go : (a n : ℕ) → AreApart (map (edge_at list) (range_with_len a n))
     go a zero = tt
-    go a (suc n) = (λ f i r. (let p = range-placed list (a + 1) n f i in
-        let lo : a + 1 ≤ p.0 = p.1.0 in let q : p.0 ≡ f.rank = ap (λ (x : ListedEdge). x.rank) p.1.1.1 in let w : a ≡ f.rank = r in omega arith), go (a + 1) n)
+    go a (suc n) = (
+      λ f i r. (let p = range-placed list (a + 1) n f i in
+          let lo : a + 1 ≤ p.0 = p.1.0 in let q : p.0 ≡ f.rank = ap (λ (x : ListedEdge). x.rank) p.1.1.1 in let w : a ≡ f.rank = r in omega arith),
+      go (a + 1) n,
+    )
 
 -- an edge's rank is a place of the list
 pub edges-low : (list : List Ranked) (e : ListedEdge) → IsIn e (edges_of list) → e.rank < length list
@@ -128,3 +133,15 @@ edges-by_weight n list h e f i j lt =
     same_default [] k x y low eq = absurd (omega arith)
     same_default (z ∷ zs) zero x y low eq = eq
     same_default (z ∷ zs) (suc k) x y low eq = same_default zs k x y (omega arith) eq
+
+-- the rank of the next edge is new
+pub first-new : (list : List Ranked) (k : ℕ) → IsNewRank k (first_edges list k)
+first-new list k e i r =
+    let p = first-placed list k e i in
+    let q : p.at ≡ e.rank = ap (λ (x : ListedEdge). x.rank) p.is in
+    let l : p.at < k = p.low in
+    omega arith
+
+-- the edge at a place, as a part is given it
+pub placed-read : (list : List Ranked) (k : ℕ) (d : Ranked) → k < length list → placed (edge_at list k) ≡ record { rank = k; a = (get_or list k d).u; b = (get_or list k d).v }
+placed-read list k d lt = rw (slice_get-get_or list k d lt) refl

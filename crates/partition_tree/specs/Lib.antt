@@ -3,7 +3,8 @@ pub mod Forest
 pub mod Paths
 pub mod Climbs
 pub mod Children
-pub mod Joining
+pub mod Levels
+pub mod Numbering
 pub mod ForestFields
 pub mod TreeFields
 pub mod Report

@@ -4,11 +4,13 @@
 mod children;
 mod climbs;
 mod forest;
+mod laws;
 mod list;
 mod numbering;
 mod report;
 mod tree;
 
+pub use laws::{tree_is_a_level_tree, tree_under_other_names};
 pub use list::Ranked;
 pub use report::write_tree;
 pub use tree::Tree;

@@ -1,14 +1,13 @@
 -- The token that comes next, byte after byte.
-use Rattle.std.proofs.Common.{◌≡◌, ◌≢◌, ℕ, suc, ◌+◌, Bool, true, false, ◌||◌, List, [], ◌∷◌, length, drop, refl, sym, ap, ◌∙◌, arith, add-zero}
+use Rattle.std.proofs.Common.{◌≡◌, ◌≢◌, ℕ, suc, ◌+◌, Bool, true, false, ◌||◌, List, [], ◌∷◌, length, refl, arith, add-zero}
 use Rattle.std.specs.Prelude.{Some, None}
 use Rattle.std.specs.List.{before_first}
 use Rattle.std.proofs.lemmas.Bool.{ne_eqb}
 use Rattle.graph_reader.specs.Tokens.{is_space, is_line_end, blanked}
 use Rattle.graph_reader.proofs.Steps.{blanked-hash, blanked-other, blanked-end, blanked-comment}
 use Rattle.pgm_reader.specs.declared.lexer.Text.{Text}
-use Rattle.pgm_reader.specs.declared.lexer.Lexer.{Lexer}
 use Rattle.pgm_reader.specs.declared.lexer.Lexer.TheVariants.{Between, Comment, Inside}
-use Rattle.pgm_reader.specs.Pgm.{CutToken, ends_token, gap, cut, token_at, number_of}
+use Rattle.pgm_reader.specs.Pgm.{ends_token, gap, cut, token_at, number_of}
 use Rattle.pgm_reader.specs.Lexing.{number_with, next_token}
 
 one-add : (n : ℕ) → 1 + n ≡ suc n

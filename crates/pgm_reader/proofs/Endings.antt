@@ -1,6 +1,6 @@
 -- What is read where the input ends.
-use Rattle.std.proofs.Common.{◌≡◌, ℕ, zero, suc, ◌+◌, ◌-◌, ◌*◌, ◌<◌, Bool, true, false, List, [], ◌∷◌, ◌++◌, length, drop, refl, sym, ap, ◌∙◌, arith, append-nil}
-use Rattle.std.specs.Prelude.{Result, Ok, Err, Option, None, Some, nat_lt, if◌then◌else◌, MatchResult}
+use Rattle.std.proofs.Common.{◌≡◌, ℕ, zero, suc, ◌+◌, ◌-◌, ◌*◌, ◌<◌, Bool, true, false, List, [], length, refl, sym, ap, ◌∙◌, arith, append-nil}
+use Rattle.std.specs.Prelude.{Result, Ok, Err, None, Some, nat_lt, if◌then◌else◌, MatchResult}
 use Rattle.hg_base.specs.declared.fault.FaultKind.TheVariants.{Truncated}
 use Rattle.hg_base.specs.declared.fault.InputFault.{InputFault}
 use Rattle.hg_base.specs.declared.fault.ReadError.{ReadError}
@@ -13,7 +13,7 @@ use Rattle.pgm_reader.specs.declared.stage.Field.{Field}
 use Rattle.pgm_reader.specs.declared.stage.Field.TheVariants as fields
 use Rattle.pgm_reader.specs.declared.stage.Stage.TheVariants as stages
 use Rattle.pgm_reader.specs.Raster.{Raster}
-use Rattle.pgm_reader.specs.Pgm.{CutToken, cut, token_at, gap, width, height, greatest, samples, pixels, from_width, from_height, from_greatest, picture}
+use Rattle.pgm_reader.specs.Pgm.{cut, token_at, gap, width, height, greatest, samples, pixels, from_width, from_height, from_greatest, picture}
 use Rattle.pgm_reader.specs.Lexing.{next_token, cut_token}
 use Rattle.pgm_reader.specs.Progress.{Progress, HasRead, Answers, IsFaultOf, reading, reading_at, from_field, from_samples, hash_ends, is_out_of_memory}
 use Rattle.pgm_reader.proofs.Reading.{answered}

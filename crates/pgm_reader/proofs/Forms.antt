@@ -1,9 +1,9 @@
 -- How a picture begins.
-use Rattle.std.proofs.Common.{◌≡◌, ℕ, ◌<◌, ◌≤◌, ◌+◌, Bool, true, false, List, [], ◌∷◌, length, drop, get_or, refl, ap, ◌∙◌, arith}
+use Rattle.std.proofs.Common.{◌≡◌, ℕ, ◌<◌, true, false, List, [], length, drop, get_or, refl, arith}
 use Rattle.std.specs.Prelude.{codes, nat_eq}
 use Rattle.std.specs.List.{starts_with}
 use Rattle.std.proofs.lemmas.List.{drop_more, drop_all}
-use Rattle.pgm_reader.specs.Pgm.{is_picture, goes_on_apart, ends_token}
+use Rattle.pgm_reader.specs.Pgm.{is_picture, ends_token}
 
 -- the two bytes and nothing more
 pub form-alone : (first : List ℕ) → starts_with nat_eq first (codes "P5") ≡ true → length first ≡ 2 → is_picture first ≡ true

@@ -7,3 +7,5 @@ pub mod Endings
 pub mod Forms
 pub mod Grids
 pub mod Generating
+pub mod Spelled
+pub mod Unspelled

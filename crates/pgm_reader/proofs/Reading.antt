@@ -1,6 +1,6 @@
 -- A decoder that has read some bytes, one byte later and at the end.
-use Rattle.std.proofs.Common.{◌≡◌, ℕ, suc, ◌+◌, ◌-◌, Bool, true, false, List, [], ◌∷◌, ◌++◌, length, drop, refl, sym, ap, ◌∙◌, subst, arith, append_assoc, append-nil, length-append, zero-add, add-zero}
-use Rattle.std.specs.Prelude.{Result, Ok, Err, None, Some}
+use Rattle.std.proofs.Common.{◌≡◌, ℕ, suc, ◌+◌, Bool, true, false, List, [], ◌∷◌, ◌++◌, length, refl, sym, ap, ◌∙◌, subst, arith, append_assoc, append-nil, length-append, zero-add, add-zero}
+use Rattle.std.specs.Prelude.{Result, Err, None, Some}
 use Rattle.hg_base.specs.declared.fault.InputFault.{InputFault}
 use Rattle.hg_base.specs.declared.fault.ReadError.{ReadError}
 use Rattle.hg_base.specs.declared.fault.ReadError.TheVariants.{OutOfMemory}
@@ -8,12 +8,11 @@ use Rattle.pgm_reader.specs.declared.lexer.Lexer.{Lexer}
 use Rattle.pgm_reader.specs.declared.lexer.Lexer.TheVariants.{Between, Comment, Inside}
 use Rattle.pgm_reader.specs.declared.stage.Field.{Field}
 use Rattle.pgm_reader.specs.declared.stage.Field.TheVariants as fields
-use Rattle.pgm_reader.specs.declared.stage.Stage.{Stage}
 use Rattle.pgm_reader.specs.declared.stage.Stage.TheVariants as stages
 use Rattle.pgm_reader.specs.Raster.{Raster}
-use Rattle.pgm_reader.specs.Pgm.{CutToken, cut, token_at, gap, picture, settles, width_settles, height_settles, greatest_settles}
+use Rattle.pgm_reader.specs.Pgm.{CutToken, picture, settles, width_settles, height_settles, greatest_settles}
 use Rattle.pgm_reader.specs.Lexing.{next_token}
-use Rattle.pgm_reader.specs.Progress.{Progress, HasRead, Reads, Answers, reading, settling, reading_at, settling_at, from_field, field_settles, hash_ends, is_out_of_memory, is_sized}
+use Rattle.pgm_reader.specs.Progress.{Progress, HasRead, Reads, Answers, reading, reading_at, settling_at, field_settles, is_out_of_memory, is_sized}
 use Rattle.pgm_reader.proofs.Cuts.{none-between, none-comment, last-inside}
 
 shift : (place n : ℕ) → place + suc n ≡ (place + 1) + n

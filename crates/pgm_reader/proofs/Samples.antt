@@ -1,5 +1,5 @@
 -- One sample more.
-use Rattle.std.proofs.Common.{◌≡◌, ℕ, suc, ◌+◌, ◌-◌, ◌*◌, ◌<◌, ◌≤◌, Bool, true, false, List, [], ◌∷◌, ◌++◌, length, refl, ap, ◌∙◌, arith, append_assoc, length-append, zero-add}
+use Rattle.std.proofs.Common.{◌≡◌, ℕ, suc, ◌+◌, ◌-◌, ◌*◌, ◌<◌, Bool, true, false, List, [], ◌∷◌, ◌++◌, length, refl, arith, append_assoc, length-append, zero-add}
 use Rattle.std.specs.Prelude.{nat_lt, if◌then◌else◌, Result, Ok, Err}
 use Rattle.hg_base.specs.declared.fault.FaultKind.TheVariants.{SampleAboveMax, Trailing}
 use Rattle.hg_base.specs.declared.fault.InputFault.{InputFault}
@@ -10,7 +10,7 @@ use Rattle.pgm_reader.specs.Pgm.{samples}
 use Rattle.pgm_reader.specs.Progress.{Progress, from_samples, with_samples}
 
 -- a sample that begins at this place, and those after it
-abbrev judged : ℕ → ℕ → ℕ → ℕ → ℕ → ℕ → List ℕ → Result (List ℕ) InputFault
+abbrev pub judged : ℕ → ℕ → ℕ → ℕ → ℕ → ℕ → List ℕ → Result (List ℕ) InputFault
 judged end max k place s next rest = if nat_lt max s then fault SampleAboveMax place s else (samples end max k next rest >>= λ more. Ok (s ∷ more))
 
 some-left : (n : ℕ) → nat_lt (suc n) 1 ≡ false
@@ -19,11 +19,11 @@ some-left n = grind arith
 two-left : (n : ℕ) → nat_lt (suc (suc n)) 2 ≡ false
 two-left n = grind arith
 
-samples-one : (end max k place b : ℕ) (rest : List ℕ) → nat_lt max 256 ≡ true → samples end max (suc k) place (b ∷ rest) ≡ judged end max k place b (place + 1) rest
+pub samples-one : (end max k place b : ℕ) (rest : List ℕ) → nat_lt max 256 ≡ true → samples end max (suc k) place (b ∷ rest) ≡ judged end max k place b (place + 1) rest
 unfolding samples
 samples-one end max k place b rest h = rw (h, some-left (length rest), zero-add) refl
 
-samples-two : (end max k place high low : ℕ) (rest : List ℕ) → nat_lt max 256 ≡ false → samples end max (suc k) place (high ∷ low ∷ rest) ≡ judged end max k place (high * 256 + low) (place + 2) rest
+pub samples-two : (end max k place high low : ℕ) (rest : List ℕ) → nat_lt max 256 ≡ false → samples end max (suc k) place (high ∷ low ∷ rest) ≡ judged end max k place (high * 256 + low) (place + 2) rest
 unfolding samples
 samples-two end max k place high low rest h = rw (h, two-left (length rest), zero-add) refl
 

@@ -1,5 +1,5 @@
 -- What the fields of a decoder of pictures stand for, and what they keep to.
-use Rattle.std.specs.Prelude.{◌≡◌, ◌*◌, ◌<◌, ◌≤◌, length, All, vec_capacity}
+use Rattle.std.specs.Prelude.{◌*◌, ◌<◌, ◌≤◌, length, All, vec_capacity}
 use Rattle.pgm_reader.specs.declared.stage.Field.TheVariants as fields
 use Rattle.pgm_reader.specs.declared.stage.Stage.{Stage}
 use Rattle.pgm_reader.specs.declared.stage.Stage.TheVariants as stages

@@ -1,5 +1,5 @@
 -- The graph of a picture: its pixels in raster order are the vertices, and neighbours are joined.
-use Rattle.std.specs.Prelude.{ℕ, ◌+◌, ◌-◌, ◌*◌, ◌/◌, ◌%◌, nat_lt, if◌then◌else◌, List, [], ◌∷◌, ◌++◌, map, slice_get, unwrap_or}
+use Rattle.std.specs.Prelude.{ℕ, ◌+◌, ◌*◌, ◌/◌, ◌%◌, nat_lt, if◌then◌else◌, List, [], ◌∷◌, ◌++◌, map, slice_get, unwrap_or}
 use Rattle.std.specs.Int.{abs_diff}
 use Rattle.std.specs.List.{flat_map, range_with_len}
 use Rattle.hg_base.specs.Graph.{WeightedGraph, with_unit_areas}

@@ -6,3 +6,4 @@ pub mod Progress
 pub mod DecoderFields
 pub mod Grid
 pub mod Generator
+pub mod Spelling

@@ -1,7 +1,7 @@
 -- The grammar of pictures: Netpbm's PGM format in its binary form P5, with comments cut as this project cuts them,
 -- and the first fault from the left. After `P5` come the width, the height and the greatest value, each a number;
 -- one byte of white space; and the samples.
-use Rattle.std.specs.Prelude.{ℕ, zero, suc, ◌+◌, ◌*◌, Bool, true, false, not, ◌&&◌, ◌||◌, ◌==◌, nat_lt, if◌then◌else◌, List, [], ◌∷◌, length, take, drop, Option, Some, None, Result, Ok, Err, codes, nat_eq}
+use Rattle.std.specs.Prelude.{ℕ, zero, suc, ◌+◌, ◌*◌, Bool, true, false, ◌&&◌, ◌||◌, ◌==◌, nat_lt, if◌then◌else◌, List, [], ◌∷◌, length, take, drop, Option, Some, None, Result, Ok, Err, codes, nat_eq}
 use Rattle.std.specs.List.{before_first, prefix_len, fold, starts_with}
 use Rattle.hg_base.specs.declared.fault.FaultKind.TheVariants.{BadNumber, TooLarge, Truncated, Trailing, NoVertex, SampleAboveMax}
 use Rattle.hg_base.specs.declared.fault.InputFault.{InputFault}

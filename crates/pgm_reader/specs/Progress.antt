@@ -5,7 +5,6 @@ use Rattle.hg_base.specs.declared.fault.ReadError.{ReadError}
 use Rattle.hg_base.specs.declared.fault.ReadError.TheVariants as errors
 use Rattle.hg_base.specs.declared.fault.FaultKind.TheVariants.{Truncated, SampleAboveMax}
 use Rattle.graph_reader.specs.EdgeList.{◌>>=◌, fault}
-use Rattle.pgm_reader.specs.declared.lexer.Lexer.{Lexer}
 use Rattle.pgm_reader.specs.declared.lexer.Found.{Found}
 use Rattle.pgm_reader.specs.declared.stage.Field.{Field}
 use Rattle.pgm_reader.specs.declared.stage.Field.TheVariants as fields

@@ -4,6 +4,7 @@
 
 mod decoder;
 mod grid;
+mod laws;
 mod lexer;
 mod made;
 mod picture;
@@ -12,6 +13,7 @@ mod stage;
 
 pub use decoder::{PictureDecoder, is_picture, read_picture};
 pub use grid::graph_of;
+pub use laws::pictures_are_spellings;
 pub use made::make_picture;
 pub use picture::Picture;
 

@@ -1,24 +1,19 @@
 -- The zones of a forest are a forest.
-use Rattle.std.proofs.Common.{◌≡◌, ℕ, ◌+◌, ◌<◌, ◌≤◌, sym, ◌∙◌, subst, ap, arith, length}
+use Rattle.std.proofs.Common.{◌≡◌, ℕ, sym, ◌∙◌, subst, ap, arith, length}
 use Rattle.std.proofs.lemmas.List.{length-map}
 use Rattle.hg_base.specs.Edges.{EdgeList, AreApart, AreWithin}
 use Rattle.hg_base.specs.Tree.{ParentTree, altitude, tree_of}
 use Rattle.hg_base.specs.Saliency.{AreByWeight}
-use Rattle.hg_base.specs.Levels.{IsClimbing, AltitudesRise, IsLevelTree}
+use Rattle.hg_base.specs.Levels.{AltitudesRise, IsLevelTree}
 use Rattle.hg_base.specs.Zones.{keeps, kept, zone_number, next_kept, zones_of, AreZones}
 use Rattle.hg_base.proofs.Passing.{count_below-most}
 use Rattle.hg_base.proofs.Levels.{level-tree}
 use Rattle.hg_base.proofs.Zones.{length-zones, zones-rise, zones-inner, zones-low, zones-makers}
 use Rattle.hg_base.proofs.ZoneLevels.{zones-are}
 use Rattle.partition_tree.specs.Forest.{IsForest}
+use Rattle.partition_tree.proofs.ForestClimbs.{forest-climbs, forest-leaves}
 
-pub forest-climbs : (t : ParentTree) → IsForest t → IsClimbing t
-forest-climbs t f = record { rises = f.rises; within = f.within }
-
--- no more leaves than nodes
-pub forest-leaves : (t : ParentTree) → IsForest t → t.leaves ≤ length t.parents
-forest-leaves t f = let e : t.leaves + length t.makers ≡ length t.parents = f.one_maker_each in omega arith
-
+-- what a tree keeps to, the zones keep to
 pub zones-forest : (t : ParentTree) → IsForest t → IsForest (zones_of t)
 zones-forest t f =
     let few = forest-leaves t f in

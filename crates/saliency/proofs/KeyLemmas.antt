@@ -1,5 +1,5 @@
 -- Tops as keys of the leaves, and the labels that they give.
-use Rattle.std.proofs.Common.{◌≡◌, ℕ, suc, ◌+◌, ◌<◌, ◌≤◌, Bool, true, ◌⊎◌, inl, inr, refl, sym, ◌∙◌, subst, ap, arith, List, [], ◌∷◌, ◌++◌, length, length-append, get_or, map, All}
+use Rattle.std.proofs.Common.{◌≡◌, ℕ, ◌+◌, ◌<◌, ◌⊎◌, inl, inr, sym, ◌∙◌, subst, ap, arith, List, [], ◌∷◌, ◌++◌, length, length-append, get_or, map, All}
 use Rattle.std.specs.Prelude.{Option, Some, None, IfSome}
 use Rattle.std.specs.List.{range_with_len}
 use Rattle.std.proofs.lemmas.Bool.{cases_eq}
@@ -9,22 +9,16 @@ use Rattle.hg_base.specs.Labels.{Labelling, IsLabelling, labelling}
 use Rattle.hg_base.specs.Numbering.{is_head, same_key, key_label}
 use Rattle.hg_base.specs.Saliency.{AreByWeight, at_most}
 use Rattle.hg_base.specs.Tree.{ParentTree, altitude, tree_of}
-use Rattle.hg_base.specs.Levels.{IsClimbing, AltitudesRise, shares, IsTop, IsLevelTree}
+use Rattle.hg_base.specs.Levels.{AltitudesRise, shares, IsTop, IsLevelTree}
 use Rattle.hg_base.proofs.Sets.{same_test}
 use Rattle.hg_base.proofs.Levels.{level-tree}
 use Rattle.hg_base.proofs.Tops.{top-shares, shares-from, shares-to}
 use Rattle.hg_base.proofs.Leasts.{IsClassing, labelling-agree}
-use Rattle.hg_base.proofs.KeyClasses.{AreKeys, same_key-from, same_key-to, classing-of_keys, AreLabels, labels-by_keys}
+use Rattle.hg_base.proofs.KeyClasses.{same_key-from, same_key-to, classing-of_keys, AreLabels, labels-by_keys}
 use Rattle.hg_base.proofs.ZoneLevels.{shares-joined_test}
 use Rattle.partition_tree.specs.Forest.{IsForest}
+use Rattle.partition_tree.proofs.ForestClimbs.{forest-climbs, forest-leaves}
 use Rattle.saliency.specs.Tops.{AreTops, AreFirstKeys}
-
-pub forest-climbs : (t : ParentTree) → IsForest t → IsClimbing t
-forest-climbs t f = record { rises = f.rises; within = f.within }
-
--- no more leaves than nodes
-pub forest-leaves : (t : ParentTree) → IsForest t → t.leaves ≤ length t.parents
-forest-leaves t f = let e : t.leaves + length t.makers ≡ length t.parents = f.one_maker_each in omega arith
 
 -- the top of a leaf
 top-of_leaf : (t : ParentTree) (level : ℕ) (tops : List ℕ) → IsForest t → AreTops t level tops → (x : ℕ) → x < t.leaves → IsTop t level x (get_or tops x 0)

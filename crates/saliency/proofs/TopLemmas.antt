@@ -1,11 +1,11 @@
 -- The pass that sends tops down, node after node.
-use Rattle.std.proofs.Common.{◌≡◌, ℕ, suc, ◌+◌, ◌<◌, ◌≤◌, ◌⊎◌, inl, inr, refl, sym, ◌∙◌, subst, ap, arith, List, length, length-set, get_or, set}
+use Rattle.std.proofs.Common.{◌≡◌, ℕ, ◌+◌, ◌<◌, ◌≤◌, ◌⊎◌, inl, inr, sym, ◌∙◌, subst, ap, arith, List, length, length-set, get_or, set}
 use Rattle.std.specs.List.{range_with_len}
 use Rattle.std.proofs.lemmas.Bool.{cases_eq}
 use Rattle.std.proofs.lemmas.List.{get_or-set_same, get_or-set_other}
 use Rattle.std.proofs.lemmas.List.FromFn.{length-range_with_len, get_or-range_with_len}
 use Rattle.hg_base.specs.Tree.{ParentTree, parent, altitude}
-use Rattle.hg_base.specs.Levels.{IsClimbing, AltitudesRise, IsTop}
+use Rattle.hg_base.specs.Levels.{IsClimbing, IsTop}
 use Rattle.hg_base.proofs.Tops.{top-parent, top-self}
 use Rattle.saliency.specs.Tops.{AreTops}
 

@@ -112,9 +112,9 @@ fn share_roots(rt: &impl Abort, graph: &Graph, tree: &Tree) -> bool
     for e in 0..graph.m() {
         let edge = graph.edge(e);
         assert!(rt; edge.u < tree.nodes() && edge.v < tree.nodes());
-        if tree.lca(edge.u, edge.v).is_none() {
+        let Some(_) = tree.lca(edge.u, edge.v) else {
             return false;
-        }
+        };
     }
     true
 }

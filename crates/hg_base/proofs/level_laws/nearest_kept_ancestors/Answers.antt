@@ -3,7 +3,6 @@ use Rattle.std.proofs.lemmas.Bool.{false_from_ne_true, cond-true, cond-false}
 use Rattle.hg_base.specs.Tree.{parent}
 use Rattle.hg_base.specs.Zones.{keeps, next_kept}
 use Rattle.hg_base.proofs.Kept.{next_kept-parent}
-use Rattle.hg_base.proofs.Passing.{passing-at}
 use Rattle.hg_base.proofs.level_laws.nearest_kept_ancestors.Goals as goal
 
 pub returns-clause-here : goal.returns-clause-here

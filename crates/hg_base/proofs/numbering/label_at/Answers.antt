@@ -1,7 +1,7 @@
 use Rattle.std.proofs.Common.{sym, arith}
 use Rattle.hg_base.specs.Numbering.{is_head}
 use Rattle.hg_base.proofs.Passing.{count_below-most}
-use Rattle.hg_base.proofs.KeyLabels.{numbers-none, numbers-old, numbers-new, key-below}
+use Rattle.hg_base.proofs.KeyLabels.{numbers-old, numbers-new, key-below}
 use Rattle.hg_base.proofs.numbering.label_at.Goals as goal
 
 pub returns-then-number-ne0-clause-label : goal.returns-then-number-ne0-clause-label

@@ -1,6 +1,4 @@
-use Rattle.std.proofs.Common.{◌≡◌, ◌+◌, ℕ, List, length, ◌∙◌, sym, subst, arith}
-use Rattle.std.proofs.lemmas.List.FromFn.{map-range_with_len_more}
-use Rattle.hg_base.specs.Numbering.{key_label, AreNumbers}
+use Rattle.std.proofs.Common.{◌≡◌, length, arith}
 use Rattle.hg_base.proofs.KeyLabels.{written_back, labels_more}
 use Rattle.hg_base.proofs.numbering.number_keys.Goals as goal
 

@@ -1,4 +1,4 @@
-use Rattle.std.proofs.Common.{◌≡◌, ◌*◌, ◌≤◌, arith}
+use Rattle.std.proofs.Common.{◌*◌, ◌≤◌, arith}
 use Rattle.pgm_reader.proofs.Grids.{is-graph}
 use Rattle.pgm_reader.proofs.grid.graph.Goals as goal
 

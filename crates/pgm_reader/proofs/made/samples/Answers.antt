@@ -1,4 +1,4 @@
-use Rattle.std.proofs.Common.{◌≡◌, ◌+◌, ◌-◌, zero, suc, refl, arith, ◌∙◌, sym, append-nil}
+use Rattle.std.proofs.Common.{◌≡◌, ◌+◌, ◌-◌, zero, suc, refl, arith, ◌∙◌, append-nil}
 use Rattle.pgm_reader.proofs.Generating.{one-made, none-more}
 use Rattle.pgm_reader.proofs.made.samples.Goals as goal
 

@@ -1,4 +1,4 @@
-use Rattle.std.proofs.Common.{ℕ, ◌-◌, sym, ◌∙◌, ap, map, arith}
+use Rattle.std.proofs.Common.{ℕ, sym, ◌∙◌, ap, map, arith}
 use Rattle.std.specs.Prelude.{Option, unwrap_or, filter, nat_le}
 use Rattle.hg_base.specs.Zones.{keeps, maker}
 use Rattle.hg_base.proofs.Passing.{passing}

@@ -3,7 +3,7 @@ use Rattle.hg_base.specs.Tree.{parent}
 use Rattle.hg_base.specs.Zones.{keeps, zone_number, next_kept}
 use Rattle.hg_base.proofs.Kept.{next_kept-parent}
 use Rattle.quasi_flat_zones.proofs.PassLemmas.{values_more, values_same}
-use Rattle.quasi_flat_zones.proofs.ForestLemmas.{forest-climbs}
+use Rattle.partition_tree.proofs.ForestClimbs.{forest-climbs}
 use Rattle.quasi_flat_zones.proofs.lists.parents.Goals as goal
 use Rattle.quasi_flat_zones.proofs.lists.parents.Goals.{then-keeps+in_ok-push, else-keeps}
 

@@ -1,6 +1,6 @@
 use Rattle.std.proofs.Common.{◌≡◌, ◌+◌, ◌-◌, ◌<◌, ℕ, sym, ◌∙◌, subst, arith, length, get_or, set}
 use Rattle.quasi_flat_zones.proofs.PassLemmas.{AreSentFrom, sent_first, sent_kept, sent_down}
-use Rattle.quasi_flat_zones.proofs.ForestLemmas.{forest-climbs}
+use Rattle.partition_tree.proofs.ForestClimbs.{forest-climbs}
 use Rattle.quasi_flat_zones.proofs.numbers.send_down.Goals as goal
 
 pub loop-i-init : goal.loop-i-init

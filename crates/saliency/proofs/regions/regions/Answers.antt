@@ -1,5 +1,4 @@
 use Rattle.std.proofs.Common.{◌∙◌}
-use Rattle.hg_base.specs.Labels.{IsLabelling, Labelling}
 use Rattle.saliency.proofs.KeyLemmas.{made-keys, made-regions, labels-of_list}
 use Rattle.saliency.proofs.regions.regions.Goals as goal
 

@@ -1,7 +1,7 @@
-use Rattle.std.proofs.Common.{◌≡◌, ◌+◌, ◌-◌, ◌<◌, ◌≤◌, ℕ, sym, ◌∙◌, subst, arith, length, get_or, set}
+use Rattle.std.proofs.Common.{◌≡◌, ◌+◌, ◌-◌, ◌<◌, ◌≤◌, ℕ, sym, subst, arith, length, get_or, set}
 use Rattle.hg_base.specs.Tree.{parent, altitude}
 use Rattle.saliency.proofs.TopLemmas.{AreTopsFrom, tops_first, tops_self, tops_parent}
-use Rattle.saliency.proofs.KeyLemmas.{forest-climbs}
+use Rattle.partition_tree.proofs.ForestClimbs.{forest-climbs}
 use Rattle.saliency.proofs.regions.send_down.Goals as goal
 
 pub loop-i-init : goal.loop-i-init

@@ -1,4 +1,3 @@
-use Rattle.std.proofs.Common.{◌∙◌, ap}
 use Rattle.pgm_reader.proofs.Endings.{last-none, last-answer}
 use Rattle.pgm_reader.proofs.decoder.PictureDecoder.last_fault.Goals as goal
 

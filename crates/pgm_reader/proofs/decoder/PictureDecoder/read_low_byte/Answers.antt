@@ -1,4 +1,4 @@
-use Rattle.std.proofs.Common.{◌≡◌, ◌*◌, ◌<◌, length, false, arith}
+use Rattle.std.proofs.Common.{◌≡◌, false, arith}
 use Rattle.std.specs.Prelude.{nat_lt}
 use Rattle.pgm_reader.proofs.Steps.{reads-low}
 use Rattle.pgm_reader.proofs.decoder.PictureDecoder.read_low_byte.Goals as goal

@@ -5,6 +5,7 @@ pub mod Climbs
 pub mod Children
 pub mod Levels
 pub mod Numbering
+pub mod Planned
 pub mod ForestFields
 pub mod TreeFields
 pub mod Report

@@ -10,4 +10,5 @@ pub mod PlacedTree
 pub mod ListLemmas
 pub mod ListTree
 pub mod PlannedTree
+pub mod PlannedLots
 pub mod TestLemmas

@@ -7,7 +7,7 @@ use Rattle.std.proofs.lemmas.List.FromFn.{length-map-range_with_len}
 use Rattle.hg_base.specs.Graph.{WeightedGraph}
 use Rattle.hg_base.specs.Rank.{listed, number_at, ranked}
 use Rattle.hg_base.specs.Edges.{ListedEdge, EdgeList, IsIn, AreApart, AreWithin, joins, next, renamed}
-use Rattle.hg_base.specs.Tree.{ParentTree, tree_of, graph_tree, node_or, place, IsFrontTree}
+use Rattle.hg_base.specs.Tree.{ParentTree, tree_of, node_or, place, IsFrontTree}
 use Rattle.hg_base.proofs.FrontOnce.{front-tree}
 use Rattle.hg_base.proofs.Ranked.{ranked-at}
 use Rattle.node_region.specs.Pool.{count, leaf_of, IsCovered}
@@ -54,12 +54,11 @@ map-range-get {X} f a (suc n) (suc i) lt =
 ranked-place : (g : WeightedGraph) (e : ListedEdge) → IsIn e (ranked g) → (e.rank < length (ranked g)) × (slice_get (ranked g) e.rank ≡ Some e)
 ranked-place g e i =
     let r = ranked-at g e i in
-    let len : length (ranked g) ≡ length g.edges = length-map-range_with_len (λ k. listed g k (number_at g k)) 0 (length g.edges) in
-    (
+    let len : length (ranked g) ≡ length g.edges = length-map-range_with_len (λ k. listed g k (number_at g k)) 0 (length g.edges) in (
       (let low : e.rank < length g.edges = r.0 in omega (arith, len, low)),
       map-range-get (λ k. listed g k (number_at g k)) 0 (length g.edges) e.rank r.0
-      ∙ ap (λ k. Some (listed g k (number_at g k))) (let z : 0 + e.rank ≡ e.rank = omega arith in z)
-      ∙ ap (λ (x : ListedEdge). Some x) (sym r.1),
+          ∙ ap (λ k. Some (listed g k (number_at g k))) (let z : 0 + e.rank ≡ e.rank = omega arith in z)
+          ∙ ap (λ (x : ListedEdge). Some x) (sym r.1),
     )
 
 order-place : (order : EdgeOrder) (g : WeightedGraph) → order ≡ order_of g → (e : ListedEdge) → IsIn e order.edges → (e.rank < length order.edges) × (slice_get order.edges e.rank ≡ Some e)
@@ -166,7 +165,7 @@ pub drawn-forest : (order : EdgeOrder) (plan : TilePlan) (part : PartState) → 
 drawn-forest order plan part w t is =
     subst IsForest (sym is) (tree-forest (vertices plan) plan.edges (positive plan.frame.width plan.frame.height w.is_plan.frame.width w.is_plan.frame.height) w.is_plan.frame.vertices (AreApart-rising plan.edges w.is_plan.rising) (within-edges plan w.is_plan))
 
--- what is told of a tree of a plan's edges
+-- a result that has the tree of the plan's edges has the tree of its fronts
 pub drawn-told : {E : Type 0} (r : Result ParentTree E) (plan : TilePlan) (t : ParentTree) → IfOk r (λ tree. tree ≡ t) → t ≡ tree_of (vertices plan) plan.edges → IfOk r (λ tree. tree ≡ tree_of (vertices plan) plan.edges)
 drawn-told {E} (Ok x) plan t h e = h ∙ e
 drawn-told {E} (Err x) plan t h e = tt
@@ -175,16 +174,3 @@ pub fronts-told : {E : Type 0} (r : Result ParentTree E) (plan : TilePlan) (t : 
 fronts-told {E} (Ok x) plan t is h e =
     subst (λ (y : ParentTree). IsFrontTree y (vertices plan) plan.edges) (sym (h ∙ e)) (front-tree (vertices plan) plan.edges (AreApart-rising plan.edges is.rising) (within-edges plan is))
 fronts-told {E} (Err x) plan t is h e = tt
-
--- and so of its graph
-pub graph-told : {E : Type 0} (r : Result ParentTree E) (order : EdgeOrder) (plan : TilePlan) (g : WeightedGraph) → IfOk r (λ tree. tree ≡ tree_of (vertices plan) plan.edges) → order.n ≡ vertices plan → order.edges ≡ plan.edges → order ≡ order_of g →
-    IfOk r (λ tree. tree ≡ graph_tree g)
-graph-told {E} r order plan g h n edges is =
-    subst (λ (k : ℕ). IfOk r (λ tree. tree ≡ tree_of k (ranked g))) (sym n ∙ ap (λ (o : EdgeOrder). o.n) is)
-    (subst (λ (s : EdgeList). IfOk r (λ tree. tree ≡ tree_of (vertices plan) s)) (sym edges ∙ ap (λ (o : EdgeOrder). o.edges) is) h)
-
-pub graph-fronts-told : {E : Type 0} (r : Result ParentTree E) (order : EdgeOrder) (plan : TilePlan) (g : WeightedGraph) → IfOk r (λ tree. IsFrontTree tree (vertices plan) plan.edges) → order.n ≡ vertices plan → order.edges ≡ plan.edges → order ≡ order_of g →
-    IfOk r (λ tree. IsFrontTree tree g.n (ranked g))
-graph-fronts-told {E} r order plan g h n edges is =
-    subst (λ (k : ℕ). IfOk r (λ tree. IsFrontTree tree k (ranked g))) (sym n ∙ ap (λ (o : EdgeOrder). o.n) is)
-    (subst (λ (s : EdgeList). IfOk r (λ tree. IsFrontTree tree (vertices plan) s)) (sym edges ∙ ap (λ (o : EdgeOrder). o.edges) is) h)

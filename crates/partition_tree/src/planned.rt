@@ -45,12 +45,7 @@ impl Tree {
 }
 
 // The tree of a part that stands for all edges of a plan.
-fn numbered(
-    alloc: Global,
-    order: &Order,
-    plan: &Plan,
-    part: &Part,
-) -> Result<Tree, AllocError>
+fn numbered(alloc: Global, order: &Order, plan: &Plan, part: &Part) -> Result<Tree, AllocError>
     requires vertices { order.now.n ≡ vertices plan.now }
     requires edges { order.now.edges ≡ plan.now.edges }
     requires first { part.now.region.first ≡ 0 }
@@ -130,12 +125,7 @@ fn number_of(order: &Order, part: &Part, cell: u32) -> u32
 }
 
 // The numbers of the edges that make the nodes.
-fn makers(
-    alloc: Global,
-    order: &Order,
-    part: &Part,
-    made: &[u32],
-) -> Result<Vec<u32>, AllocError>
+fn makers(alloc: Global, order: &Order, part: &Part, made: &[u32]) -> Result<Vec<u32>, AllocError>
     requires cells { AreCells part.now (length order.now.edges) }
     requires made { AreMakers part.now.region made.now }
     ensures { IfOk result (λ makers. makers.items ≡ map (λ i. number_at_rank order.now (rank_of part.now.region (slice_index made.now i))) (range_with_len 0 (length made.now))) }

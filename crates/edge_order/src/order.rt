@@ -1,5 +1,5 @@
 ghost use Rattle.std.specs.Prelude.{◌≡◌, ℕ, ◌+◌, ◌<◌, ◌≤◌, ◌∷◌, [], ◌++◌, length, map, take, slice_get, Some, IfOk, All};
-ghost use Rattle.hg_base.specs.Graph.{JoinsTwo, weight};
+ghost use Rattle.hg_base.specs.Graph.{JoinsTwo, WeightedGraph, weight};
 ghost use Rattle.hg_base.specs.Rank.{numbers, number_at, rank, ranked};
 ghost use Rattle.edge_order.specs.Order.{order_of, number_at_rank, with_number, without_rank};
 ghost use Rattle.edge_order.specs.Tables.{keys_of, sorted_keys_of, ranks_of, listed_row, HasEnds};
@@ -136,6 +136,7 @@ impl Order {
     pub fn len(&self) -> u32
         ensures value { result ≡ length self.now.edges }
         ensures edges { result ≤ 4194304 }
+        ensures graph { (g : WeightedGraph) × (self.now ≡ order_of g) }
     {
         self.edges.len() as u32
     }

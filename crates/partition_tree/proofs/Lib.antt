@@ -9,4 +9,6 @@ pub mod NumberingLaws
 pub mod PlacedTree
 pub mod ListLemmas
 pub mod ListTree
+pub mod PlannedTree
+pub mod PlannedLots
 pub mod TestLemmas

@@ -4,6 +4,7 @@ pub mod Paths
 pub mod Climbs
 pub mod Children
 pub mod Numbering
+pub mod Planned
 pub mod ForestFields
 pub mod TreeFields
 pub mod Report

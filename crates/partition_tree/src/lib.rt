@@ -7,6 +7,7 @@ mod forest;
 mod laws;
 mod list;
 mod numbering;
+mod planned;
 mod report;
 mod tree;
 

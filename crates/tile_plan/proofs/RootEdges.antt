@@ -35,7 +35,7 @@ AreApart-renamed f (e ∷ s) h = (λ g i r. (let p = IsIn-renamed_back f s g i i
 root-below : (p : TilePlan) → IsPlan p → root p < part_count p
 root-below p h = let some = some-tile p h in omega (arith, some)
 
-apart-edges : (p : TilePlan) → IsPlan p → AreApart (renamed (place_of p) p.edges)
+pub apart-edges : (p : TilePlan) → IsPlan p → AreApart (renamed (place_of p) p.edges)
 apart-edges p h = AreApart-renamed (place_of p) p.edges (AreApart-rising p.edges h.rising)
 
 -- an edge of the plan is in a lot below the root
@@ -56,7 +56,7 @@ root-all p h = record {
 root-apart : (p : TilePlan) → IsPlan p → AreApart (edges_at p (root p))
 root-apart p h = (has_edges p (root p) h (root-below p h)).apart
 
-within-edges : (p : TilePlan) → IsPlan p → AreWithin (vertices p) p.edges
+pub within-edges : (p : TilePlan) → IsPlan p → AreWithin (vertices p) p.edges
 within-edges p h e i = let ends = h.edges e i in (ends.u, ends.v)
 
 pub root-count : (p : TilePlan) → IsPlan p → length (edges_at p (root p)) ≡ length p.edges

@@ -1,10 +1,10 @@
 -- A test of lots, for lots that are written out.
-use Rattle.std.proofs.Common.{◌≡◌, ◌≢◌, ℕ, ◌+◌, ◌<◌, ◌≤◌, inl, inr, refl, sym, ◌∙◌, subst, ap, arith, List, [], ◌∷◌, map, nat_le, nat_lt, ◌==◌, Bool, true, false}
+use Rattle.std.proofs.Common.{◌≡◌, ◌≢◌, ℕ, ◌+◌, ◌<◌, ◌≤◌, inl, inr, sym, ◌∙◌, subst, ap, List, [], ◌∷◌, map, nat_le, nat_lt, ◌==◌, Bool, true}
 use Rattle.std.specs.Prelude.{not, ◌&&◌}
 use Rattle.std.proofs.lemmas.Bool.{and_parts, leb-true, ltb-true, eq-eqb, true≢false}
 use Rattle.hg_base.specs.Edges.{ListedEdge, IsIn, AreApart}
 use Rattle.hg_base.specs.declared.graph.PlacedEdge.{PlacedEdge}
-use Rattle.node_region.specs.Pool.{CellPool, IsCovered, count}
+use Rattle.node_region.specs.Pool.{CellPool, count}
 use Rattle.border_climb.specs.Stands.{PartState, Stands}
 use Rattle.border_climb.specs.Parts.{listed, IsLot, CanTake}
 

@@ -115,14 +115,24 @@ fn answers(rt: HostRuntime) -> Result<(), Fail> {
         rt.alloc(),
         Part::whole(rt.alloc(), 4)?,
         &TURNED,
-        &[Given::Joined, Given::Joined, Given::Joined, Given::Replaced(3)],
+        &[
+            Given::Joined,
+            Given::Joined,
+            Given::Joined,
+            Given::Replaced(3),
+        ],
     )?;
     assert_answers(
         &rt,
         rt.alloc(),
         Part::whole(rt.alloc(), 4)?,
         &LINKS,
-        &[Given::Joined, Given::Joined, Given::Joined, Given::Redundant],
+        &[
+            Given::Joined,
+            Given::Joined,
+            Given::Joined,
+            Given::Redundant,
+        ],
     )?;
     Ok(())
 }

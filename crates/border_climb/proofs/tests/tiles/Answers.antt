@@ -1,4 +1,4 @@
-use Rattle.std.proofs.Common.{◌≡◌, ℕ, ◌<◌, ◌≤◌, ◌⊎◌, inl, inr, refl, sym, subst, arith, List, [], ◌∷◌}
+use Rattle.std.proofs.Common.{◌≡◌, ℕ, inl, inr, refl, sym, subst, arith, [], ◌∷◌}
 use Rattle.hg_base.specs.Edges.{IsIn}
 use Rattle.hg_base.specs.declared.graph.PlacedEdge.{PlacedEdge}
 use Rattle.node_region.specs.Pool.{CellPool, IsCovered}
@@ -33,7 +33,7 @@ join-whole-requires-clause-lists g c =
           left_stands = c.build_tile-left.ensures.stands (listed (edge 2 0 1) ∷ []) refl;
           right_stands = c.build_tile-right.ensures.stands (listed (edge 3 2 3) ∷ []) refl;
           crosses = both-cross c.build_tile-left.result.region c.build_tile-right.result.region (edge 0 1 2) (edge 1 0 3)
-          (left 1 (omega arith, omega arith)) (right 2 (omega arith, omega arith)) (left 0 (omega arith, omega arith)) (right 3 (omega arith, omega arith));
+              (left 1 (omega arith, omega arith)) (right 2 (omega arith, omega arith)) (left 0 (omega arith, omega arith)) (right 3 (omega arith, omega arith));
           apart = apart 0 4 (edge 2 0 1 ∷ edge 3 2 3 ∷ edge 0 1 2 ∷ edge 1 0 3 ∷ []) refl;
         },
       ),

@@ -61,8 +61,8 @@ seated-count (f ∷ edges) rising cells m =
           (g.0, (other i c was g.0 g.1.0 g.1.1, g.1.1)));
       seat = λ g i. (let s = m.seat g (inr i) in
           let apart : s.0 ≢ k = λ same. (let one : s.1.0 ≡ b = some-one s.1.0 b (sym s.1.1.1 ∙ ap (λ (j : ℕ). get_or cells j None) same ∙ at) in
-              let r : f.rank ≡ g.rank = sym level ∙ ap (λ (y : Cell). y.rank) (sym one) ∙ s.1.1.2 in
-              let up : f.rank < g.rank = rising.0 g i in omega arith) in
+          let r : f.rank ≡ g.rank = sym level ∙ ap (λ (y : Cell). y.rank) (sym one) ∙ s.1.1.2 in
+          let up : f.rank < g.rank = rising.0 g i in omega arith) in
           let long = length-set cells k None in
           (s.0, (s.1.0, ((let lt' : s.0 < length cells = s.1.1.0 in omega (arith, long)), get_or-set_other cells k s.0 None None apart ∙ s.1.1.1, s.1.1.2))));
       alone = λ i j c d ec ed r. m.alone i j c d (before i c ec).1 (before j d ed).1 r;
@@ -122,7 +122,7 @@ pub free-some : (pool : CellPool) → IsPool pool → (s : EdgeList) → AreBetw
 free-some pool p s b l =
     let whole = free-components pool p s b l in
     let least : count_below (is_least (joined s)) (suc pool.first) ≡ suc pool.first = count_below-all (is_least (joined s)) (suc pool.first)
-        (λ x lt. is_least-from (joined s) x (λ y low. false_from_ne_true (joined s x y) (λ j. alone x y (omega arith) low ((IsSame-joined s).back x y j)))) in
+    (λ x lt. is_least-from (joined s) x (λ y low. false_from_ne_true (joined s x y) (λ j. alone x y (omega arith) low ((IsSame-joined s).back x y j)))) in
     let some : 1 ≤ count pool = p.some_number in
     let more = count-more (is_least (joined s)) (suc pool.first) (count pool - 1) in
     let same : suc pool.first + (count pool - 1) ≡ pool.first + count pool = omega arith in

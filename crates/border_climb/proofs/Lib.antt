@@ -12,3 +12,4 @@ pub mod Splices
 pub mod Parts
 pub mod Lots
 pub mod Uniting
+pub mod Checked

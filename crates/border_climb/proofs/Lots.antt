@@ -178,15 +178,30 @@ pub given-next : (old mid : PartState) (edges : List PlacedEdge) (i : ℕ) (e : 
     (IsCovered mid.region e.a × IsCovered mid.region e.b) × ((e.a ≢ e.b) × ((u : EdgeList) × (Stands mid u × IsNewRank e.rank u)))
 given-next old mid edges i e lt at m s can =
     let there : edges ≡ take i edges ++ (e ∷ drop (suc i) edges) = around edges i e lt ∙ ap (λ (x : PlacedEdge). take i edges ++ (x ∷ drop (suc i) edges)) (sym at) in
-    let inside : IsIn e edges = subst (λ (l : List PlacedEdge). IsIn e l) (sym there) (IsIn-append e (take i edges) (e ∷ drop (suc i) edges) (inr (inl refl))) in
-    ((covered-on old.region mid.region m.kept.range e.a (can.a e inside), covered-on old.region mid.region m.kept.range e.b (can.b e inside)),
-    (can.two e inside,
-    (s ++ map listed (take i edges), (m.stands s (map listed (take i edges)) can (listed-placed (take i edges)),
-    new-next old edges s can (take i edges) e (drop (suc i) edges) there (map listed (take i edges)) (listed-placed (take i edges))))))
+    let inside : IsIn e edges = subst (λ (l : List PlacedEdge). IsIn e l) (sym there) (IsIn-append e (take i edges) (e ∷ drop (suc i) edges) (inr (inl refl))) in (
+      (covered-on old.region mid.region m.kept.range e.a (can.a e inside), covered-on old.region mid.region m.kept.range e.b (can.b e inside)),
+      (
+        can.two e inside,
+        (
+          s ++ map listed (take i edges),
+          (
+            m.stands s (map listed (take i edges)) can (listed-placed (take i edges)),
+            new-next old edges s can (take i edges) e (drop (suc i) edges) there (map listed (take i edges)) (listed-placed (take i edges)),
+          ),
+        ),
+      ),
+    )
 
 -- the lots have no say in what a part stands for
 pub stands-noted : (p q : PartState) (s : EdgeList) (lots : List ℕ) → q ≡ record p { lots = lots } → Stands p s → Stands q s
 stands-noted p q s lots eq st = subst (λ (w : PartState). Stands w s) (sym eq) (record {
-  first_ends = st.first_ends; second_ends = st.second_ends; two_ends = st.two_ends; apart = st.apart; small = st.small;
-  traces = st.traces; met = st.met; alone = st.alone; given = st.given;
+  first_ends = st.first_ends;
+  second_ends = st.second_ends;
+  two_ends = st.two_ends;
+  apart = st.apart;
+  small = st.small;
+  traces = st.traces;
+  met = st.met;
+  alone = st.alone;
+  given = st.given;
 })

@@ -108,7 +108,7 @@ answer-told s e (answers.Replaced y) t = record {
         let down : z ≤ t.1.0.rank = p.1.least t.1.0.rank first.joins in
         let at : t.1.0.rank ≡ y = t.1.1.1 in
         let same : y ≡ z = omega arith in
-        ap answers.Replaced same)
+        ap answers.Replaced same),
   );
 }
   where

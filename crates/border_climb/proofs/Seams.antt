@@ -84,8 +84,16 @@ merging-same : (p q : CellPool) → SameLinks p q → (e : ListedEdge) (s : Edge
 merging-same p q same e s t first second m =
     let keeps : KeepsRanks p q = rank-same p q same in
     record {
-      edge = m.edge; seat = rank-same p q same t m.edge.rank m.seat; joins = m.joins; apart = m.apart; above = m.above; a = m.a; b = m.b; ends = m.ends;
-      unjoined = m.unjoined; at_end = m.at_end;
+      edge = m.edge;
+      seat = rank-same p q same t m.edge.rank m.seat;
+      joins = m.joins;
+      apart = m.apart;
+      above = m.above;
+      a = m.a;
+      b = m.b;
+      ends = m.ends;
+      unjoined = m.unjoined;
+      at_end = m.at_end;
       first_link = points-kept p q keeps first (next s m.a (suc m.edge.rank)) m.first_link;
       second_link = points-kept p q keeps second (next s m.b (suc m.edge.rank)) m.second_link;
       leafs = λ x cov. subst (λ (o : Option ℕ). Points q o (next (e ∷ s) x 0)) (sym (same.leafs x)) (points-kept p q keeps (leaf_of p x) (next (e ∷ s) x 0) (m.leafs x (same.covered x cov)));

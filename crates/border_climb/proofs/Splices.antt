@@ -57,7 +57,7 @@ top-last pool s h l x r cov fresh (Some i) top =
     let out = IsIn-leaving_kept s x f.0 f.1.0 in
     let q = l.cells i top.cell top.is in
     let up : Points pool top.cell.up (next s x (suc f.0.rank)) = subst (λ (w : Option ListedEdge). Points pool top.cell.up w) (sym (next-behind s h x f.0 out.0 out.1))
-        (subst (λ (g : ListedEdge). Points pool top.cell.up (next s g.u (suc g.rank))) (cell-edge pool s h top.cell q f.0 out.0 f.1.1.1) q.up) in
+    (subst (λ (g : ListedEdge). Points pool top.cell.up (next s g.u (suc g.rank))) (cell-edge pool s h top.cell q f.0 out.0 f.1.1.1) q.up) in
     let low : top.cell.rank < r = top.low in
     let level : top.cell.rank ≡ f.0.rank = f.1.1.1 in
     record {
@@ -140,10 +140,13 @@ turn-cases p id c pool cov j =
     let high : id < p.first + length p.cells = cov.1 in
     elim (cases_eq j id) [
       | inl same ↦ inl (same, ap (λ (y : ℕ). turn_of (with_taken p id c) y) same ∙ rw (le-leb p.first id low) (get_or-set_same p.turns (id - p.first) (min (get_or p.turns (id - p.first) 0 + 1) (2 ^ 32 - 1)) 0 (omega arith)))
-      | inr other ↦ inr (other, elim (cases_Bool (nat_le p.first j)) [
-        | inl from ↦ (let from' : p.first ≤ j = leb-true p.first j from in rw from (get_or-set_other p.turns (id - p.first) (j - p.first) (next_turn (turn_of p id)) 0 (λ same. other (omega arith))))
-        | inr under ↦ rw under refl
-      ])
+      | inr other ↦ inr (
+        other,
+        elim (cases_Bool (nat_le p.first j)) [
+          | inl from ↦ (let from' : p.first ≤ j = leb-true p.first j from in rw from (get_or-set_other p.turns (id - p.first) (j - p.first) (next_turn (turn_of p id)) 0 (λ same. other (omega arith))))
+          | inr under ↦ rw under refl
+        ],
+      )
     ]
 
 -- the notes of the list are still of the list after a free number was taken
@@ -275,12 +278,18 @@ opens-seam p q new e first second id m unlike can eq s l =
     let first_last = first-last p q e.u e.v e.rank first second m s l in
     let second_last = second-last p q e.u e.v e.rank first second m s l in
     let unjoined : joined (below s e.rank) e.u e.v ≡ false = false_from_ne_true (joined (below s e.rank) e.u e.v) (λ j.
-        let w = joined-last q s l.between.apart links e.u e.v e.rank m.two first second first_last second_last j in unlike w.0 w.1.0 w.1.1) in
+    let w = joined-last q s l.between.apart links e.u e.v e.rank m.two first second first_last second_last j in unlike w.0 w.1.0 w.1.1) in
     let opened = opened-with q e.u e.v first second id e.rank can in
     subst (λ (w : CellPool). IsSeam w e s id (up_of q e.u first) (up_of q e.v second)) (sym eq) (record {
       merging = opening q (opened_pool q e.u e.v first second id e.rank) e s first second id (record {
-        links = links; apart = fresh-apart e s l.between.apart l.fresh;
-        first_end = can.a_covered; second_end = can.b_covered; first_last = first_last; second_last = second_last; unjoined = unjoined; opened = opened;
+        links = links;
+        apart = fresh-apart e s l.between.apart l.fresh;
+        first_end = can.a_covered;
+        second_end = can.b_covered;
+        first_last = first_last;
+        second_last = second_last;
+        unjoined = unjoined;
+        opened = opened;
       });
       noted = noted-opened q e.u e.v first second id e.rank can s (sound-noted_list q s l.between.apart links m.sound);
     })
@@ -291,8 +300,11 @@ merged-sound new e s answer h m = noted-sound new (e ∷ s) h m.links (noted-aft
 
 links-on : (p q w : CellPool) → SameLinks p q → SameLinks q w → SameLinks p w
 links-on p q w a b = record {
-  cells = λ i. b.cells i ∙ a.cells i; leafs = λ x. b.leafs x ∙ a.leafs x; turns = λ i. b.turns i ∙ a.turns i;
-  covered = λ x c. a.covered x (b.covered x c); still_covered = λ x c. b.still_covered x (a.still_covered x c);
+  cells = λ i. b.cells i ∙ a.cells i;
+  leafs = λ x. b.leafs x ∙ a.leafs x;
+  turns = λ i. b.turns i ∙ a.turns i;
+  covered = λ x c. a.covered x (b.covered x c);
+  still_covered = λ x c. b.still_covered x (a.still_covered x c);
 }
 
 top-same : (p q : CellPool) → SameLinks p q → (x r : ℕ) (o : Option ℕ) → IsTop p x r o → IsTop q x r o
@@ -300,7 +312,9 @@ top-same p q same x r None top = ends-same p q same (leaf_of q x) r (subst (λ (
 top-same p q same x r (Some i) top = record {
   links = top.links;
   met = subst (λ (o : Option ℕ). IsMet q top.links o i) (sym (same.leafs x)) (met-same p q same top.links (leaf_of p x) i top.met);
-  cell = top.cell; is = same.cells i ∙ top.is; low = top.low;
+  cell = top.cell;
+  is = same.cells i ∙ top.is;
+  low = top.low;
   last = ends-same p q same top.cell.up r top.last;
 }
 
@@ -308,9 +322,13 @@ top-same p q same x r (Some i) top = record {
 pub climbed : (p q w : CellPool) (e : PlacedEdge) (first second : Option ℕ) → IsCovered p e.a → IsCovered p e.b → e.a ≢ e.b → DiffersInNotes p q → DiffersInNotes q w → IsSound w → IsTop p e.a e.rank first → IsTop q e.b e.rank second →
     AreClimbed p w e.a e.b e.rank first second
 climbed p q w e first second a b two one other sound first_top second_top = record {
-  a_covered = a; b_covered = b; two = two;
+  a_covered = a;
+  b_covered = b;
+  two = two;
   same = links-on p q w (links-differs p q one) (links-differs q w other);
-  sound = sound; first_top = first_top; second_top = top-same q w (links-differs q w other) e.b e.rank second second_top;
+  sound = sound;
+  first_top = first_top;
+  second_top = top-same q w (links-differs q w other) e.b e.rank second second_top;
 }
 
 -- a list stays linked where only notes differ
@@ -319,7 +337,9 @@ list-same p q same s r l = record {
   between = record {
     first_ends = λ e i. same.still_covered e.u (l.between.first_ends e i);
     second_ends = λ e i. same.still_covered e.v (l.between.second_ends e i);
-    two_ends = l.between.two_ends; apart = l.between.apart; small = l.between.small;
+    two_ends = l.between.two_ends;
+    apart = l.between.apart;
+    small = l.between.small;
   };
   links = linked-same p q same s l.links;
   fresh = l.fresh;
@@ -331,7 +351,7 @@ pub opened-seam : (p q new : CellPool) (e : PlacedEdge) (first second : Option �
     (f : ListedEdge) (s : EdgeList) → placed f ≡ e → IsLinkedList p s e.rank → IsSeam new f s last third fourth
 opened-seam p q new e first second last third fourth m unlike can eq at at' f s is l =
     (subst (λ (g : PlacedEdge). AreClimbed p q g.a g.b g.rank first second → CanOpen q g.a g.b first second last → new ≡ opened_pool q g.a g.b first second last g.rank → third ≡ up_of q g.a first → fourth ≡ up_of q g.b second → IsLinkedList p s g.rank →
-        IsSeam new f s last third fourth) is
+    IsSeam new f s last third fourth) is
     (λ m' can' eq' t t' l'. seam-at new f s last (up_of q f.u first) (up_of q f.v second) third fourth (opens-seam p q new f first second last m' unlike can' eq' s l') (sym t) (sym t'))) m can eq at at' l
 
 -- a redundant edge changes no link
@@ -353,7 +373,7 @@ pub spliced-one : (p q : CellPool) (e : PlacedEdge) (first second : Option ℕ) 
 spliced-one p q e first second m i one two f s is l =
     (subst (λ (g : PlacedEdge). AreClimbed p q g.a g.b g.rank first second → IsLinkedList p s g.rank → IsSpliced q f s answers.Redundant) is
     (λ m' l'. let r = tells-one p q f first second m' i one two s l' in
-      record { links = redundant-links q f s (fresh-apart f s l'.between.apart l'.fresh) r (linked-same p q m'.same s l'.links); told = r })) m l
+    record { links = redundant-links q f s (fresh-apart f s l'.between.apart l'.fresh) r (linked-same p q m'.same s l'.links); told = r })) m l
 
 -- what a merge leaves
 pub spliced-merged : (new : CellPool) (f : ListedEdge) (s : EdgeList) (answer : Given) → IsMerged new f s answer → IsSpliced new f s answer

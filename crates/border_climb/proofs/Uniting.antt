@@ -331,9 +331,12 @@ stands-united left right whole s r pp pq next' m region given =
       small = λ e i. elim (IsIn-append_back e s r i) [ inl a ↦ m.left_stands.small e a | inr b ↦ m.right_stands.small e b ];
     })
     (subst (λ (w : CellPool). AreLinked w (s ++ r)) (sym region) (linked-united left.region right.region s r (record {
-      two = two; aside = lists-aside left right s r two m;
-      left = linked-Stands left s m.left_stands; right = linked-Stands right r m.right_stands;
-      left_ends = m.left_stands.first_ends; right_ends = m.right_stands.first_ends;
+      two = two;
+      aside = lists-aside left right s r two m;
+      left = linked-Stands left s m.left_stands;
+      right = linked-Stands right r m.right_stands;
+      left_ends = m.left_stands.first_ends;
+      right_ends = m.right_stands.first_ends;
     })))
     (let a : left.given ≡ length s = m.left_stands.given in let b : right.given ≡ length r = m.right_stands.given in let n = length-append s r in omega (arith, n))
   where

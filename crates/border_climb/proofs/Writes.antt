@@ -36,8 +36,11 @@ relinked-with p id up c is =
     let y : Option Cell = Some (record { rank = option_map_or (λ b. b.rank) (cell_at p id) 0; up = up }) in
     record {
       kept = record {
-        covered = λ x h. (h.0, (let long : length (set p.cells (id - p.first) (Some (record { rank = option_map_or (λ b. b.rank) (cell_at p id) 0; up = up }))) ≡ length p.cells = length-set p.cells (id - p.first) (Some (record { rank = option_map_or (λ b. b.rank) (cell_at p id) 0; up = up })) in
-            let top : x < p.first + length (set p.cells (id - p.first) (Some (record { rank = option_map_or (λ b. b.rank) (cell_at p id) 0; up = up }))) = h.1 in omega arith));
+        covered = λ x h. (
+          h.0,
+          (let long : length (set p.cells (id - p.first) (Some (record { rank = option_map_or (λ b. b.rank) (cell_at p id) 0; up = up }))) ≡ length p.cells = length-set p.cells (id - p.first) (Some (record { rank = option_map_or (λ b. b.rank) (cell_at p id) 0; up = up })) in
+              let top : x < p.first + length (set p.cells (id - p.first) (Some (record { rank = option_map_or (λ b. b.rank) (cell_at p id) 0; up = up }))) = h.1 in omega arith),
+        );
         leafs = λ x. refl;
       };
       at = λ b eq. entry-set_same p.first p.cells id (Some (record { rank = option_map_or (λ c. c.rank) (cell_at p id) 0; up = up })) cov.0 cov.1
@@ -68,8 +71,11 @@ dropped-with p id c is =
     let cov = used-covered p id c is in
     record {
       kept = record {
-        covered = λ x h. (h.0, (let long : length (set p.cells (id - p.first) None) ≡ length p.cells = length-set p.cells (id - p.first) None in
-            let top : x < p.first + length (set p.cells (id - p.first) None) = h.1 in omega arith));
+        covered = λ x h. (
+          h.0,
+          (let long : length (set p.cells (id - p.first) None) ≡ length p.cells = length-set p.cells (id - p.first) None in
+              let top : x < p.first + length (set p.cells (id - p.first) None) = h.1 in omega arith),
+        );
         leafs = λ x. refl;
       };
       at = entry-set_same p.first p.cells id None cov.0 cov.1;
@@ -125,8 +131,8 @@ advanced old mid new t low high top c k e s m =
     let held : IsSeam mid e s t (Some low.id) (Some high.id) = seam-noted old mid e s t (Some low.id) (Some high.id) m low.rank (omega arith) k.noted in
     let there : cell_at mid top.id ≡ Some k.climbed.reached.seat.cell = same.cells top.id ∙ k.climbed.reached.seat.is in
     let f = chain-met mid s held.merging.apart.1 (suc held.merging.edge.rank) (seam-linked mid e s t (Some low.id) (Some high.id) held.merging) k.climbed.reached.links held.merging.a (suc held.merging.edge.rank)
-        (Some low.id) (next s held.merging.a (suc held.merging.edge.rank)) (omega arith) refl held.merging.first_link top.id
-        (met-same old mid same k.climbed.reached.links (Some low.id) top.id k.climbed.reached.met) k.climbed.reached.seat.cell there in
+    (Some low.id) (next s held.merging.a (suc held.merging.edge.rank)) (omega arith) refl held.merging.first_link top.id
+    (met-same old mid same k.climbed.reached.links (Some low.id) top.id k.climbed.reached.met) k.climbed.reached.seat.cell there in
     let from : suc held.merging.edge.rank ≤ f.0.rank = f.1.1.0 in
     let level : k.climbed.reached.seat.cell.rank ≡ f.0.rank = f.1.1.1 in
     let has : k.climbed.reached.seat.cell.rank ≡ top.rank = k.climbed.reached.seat.has in
@@ -157,7 +163,7 @@ advanced-rises old mid new t low high top c k e s m =
     let held = seam-noted old mid e s t (Some low.id) (Some high.id) m low.rank (omega arith) k.noted in
     let there : HasRank mid top.id top.rank = record { cell = k.climbed.reached.seat.cell; is = same.cells top.id ∙ k.climbed.reached.seat.is; has = k.climbed.reached.seat.has } in
     let to : rank_of new top.id ≡ top.rank = seat-rank_of new top.id top.rank
-        (relinked-ranks mid new t (Some low.id) (relinked-written mid new t (Some low.id) held.merging.seat.cell held.merging.seat.is k.written) top.id top.rank there) in
+    (relinked-ranks mid new t (Some low.id) (relinked-written mid new t (Some low.id) held.merging.seat.cell held.merging.seat.is k.written) top.id top.rank there) in
     (omega arith, to)
 
 -- the chains come to one cell

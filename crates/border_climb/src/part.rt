@@ -37,12 +37,7 @@ impl Model for Part {
 impl Part {
     /// The part of `count` places from `first` on, to which no edge was given, with room to grow. All memory that it
     /// will ever need is taken here, and the error is want of it.
-    pub fn of_tile(
-        alloc: Global,
-        first: u32,
-        count: u32,
-        room: Room,
-    ) -> Result<Part, OutOfMemory>
+    pub fn of_tile(alloc: Global, first: u32, count: u32, room: Room) -> Result<Part, OutOfMemory>
         requires some_place { 1 ≤ count }
         requires few_places { count ≤ room.places }
         requires range { first + room.places ≤ 1048576 }

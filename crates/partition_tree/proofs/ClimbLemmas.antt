@@ -1,7 +1,6 @@
 -- Climbing by depths and jumps keeps the nodes that are above both.
 use Rattle.std.proofs.Common.{◌≡◌, ◌≢◌, ℕ, zero, suc, ◌+◌, ◌<◌, ◌≤◌, ◌⊎◌, inl, inr, refl, sym, ◌∙◌, subst, ap, arith, List, length, get_or, set, get_or-set_same, get_or-set_other}
 use Rattle.std.proofs.lemmas.List.{length-set}
-use Rattle.std.proofs.lemmas.Bool.{cases_order}
 use Rattle.std.proofs.lemmas.Bool.Decides.{eqb_tells}
 use Rattle.hg_base.specs.Tree.{ParentTree, parent, ancestor, IsAbove}
 use Rattle.hg_base.specs.Saliency.{IsLowestAbove}

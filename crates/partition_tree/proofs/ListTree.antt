@@ -1,10 +1,10 @@
 -- The numbering of a part to which the edges of a list were given is the list's tree.
-use Rattle.std.proofs.Common.{◌≡◌, ℕ, ◌+◌, ◌<◌, ◌≤◌, refl, sym, ◌∙◌, subst, ap, arith, List, ◌++◌, length, map, get_or, vec_len}
+use Rattle.std.proofs.Common.{◌≡◌, ℕ, ◌≤◌, sym, ◌∙◌, subst, ap, arith, List, ◌++◌, length, map, get_or}
 use Rattle.std.specs.Prelude.{Option, Some, replicate}
 use Rattle.std.specs.List.{range_with_len}
-use Rattle.hg_base.specs.Edges.{ListedEdge, EdgeList, IsIn, next}
+use Rattle.hg_base.specs.Edges.{ListedEdge, EdgeList, next}
 use Rattle.hg_base.specs.Tree.{ParentTree, tree_of, node_or}
-use Rattle.node_region.specs.Pool.{CellPool, IsCovered, cell_at, leaf_of, IsUsed, count}
+use Rattle.node_region.specs.Pool.{leaf_of, IsUsed, count}
 use Rattle.border_climb.specs.Stands.{PartState, Stands}
 use Rattle.partition_tree.specs.declared.list.Ranked.{Ranked}
 use Rattle.partition_tree.specs.Forest.{IsForest, lists_of}

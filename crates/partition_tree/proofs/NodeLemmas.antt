@@ -1,6 +1,6 @@
 -- Passes over the nodes in order of number.
-use Rattle.std.proofs.Common.{◌≡◌, ℕ, zero, suc, ◌+◌, ◌≤◌, Bool, true, false, cond, List, [], ◌∷◌, ◌++◌, Option, Some, ◌∙◌, ap, arith, add-one, append_assoc, append-nil}
-use Rattle.std.specs.Prelude.{count_by, IfSome, slice_set}
+use Rattle.std.proofs.Common.{◌≡◌, ℕ, zero, suc, ◌+◌, ◌≤◌, Bool, true, false, cond, List, [], ◌∷◌, ◌++◌, ◌∙◌, ap, arith, add-one, append_assoc, append-nil}
+use Rattle.std.specs.Prelude.{count_by}
 use Rattle.hg_base.specs.Text.{line}
 use Rattle.hg_base.specs.Tree.{ParentTree, parent, altitude}
 use Rattle.partition_tree.specs.Report.{node_line}

@@ -1,5 +1,5 @@
 -- What the numbering of a part's cells gives is the tree of each list for which the part stands.
-use Rattle.std.proofs.Common.{◌≡◌, ◌≢◌, ℕ, zero, suc, ◌+◌, ◌-◌, ◌<◌, ◌≤◌, ◌^◌, true, ◌⊎◌, inl, inr, refl, sym, ◌∙◌, subst, ap, arith, List, [], ◌∷◌, ◌++◌, length, map, get_or, append-nil}
+use Rattle.std.proofs.Common.{◌≡◌, ℕ, zero, suc, ◌+◌, ◌<◌, ◌≤◌, inl, inr, refl, sym, ◌∙◌, subst, ap, arith, List, [], ◌∷◌, ◌++◌, length, map, get_or, append-nil}
 use Rattle.std.specs.Prelude.{Option, Some, None, slice_get}
 use Rattle.std.specs.List.{range_with_len}
 use Rattle.std.proofs.lemmas.Option.{slice_get_within}
@@ -7,22 +7,20 @@ use Rattle.std.proofs.lemmas.Bool.{le-ltb}
 use Rattle.hg_base.specs.Edges.{ListedEdge, EdgeList, IsIn, IsSameSet, AreApart, below, joins, chain, next}
 use Rattle.hg_base.specs.Placed.{ranks}
 use Rattle.hg_base.specs.Tree.{place, node_or}
-use Rattle.hg_base.proofs.Members.{IsRising}
 use Rattle.hg_base.proofs.Sets.{chain-same, IsIn-joins, IsIn-joins_kept, IsRising-joins}
 use Rattle.hg_base.proofs.Fronts.{apart-one}
 use Rattle.hg_base.proofs.Paths.{leaving-joins}
 use Rattle.hg_base.proofs.Nodes.{joins-at, joins-index}
 use Rattle.hg_base.proofs.BelowRanks.{below-found, below-missing, below-whole}
 use Rattle.hg_base.proofs.Ends.{next-is}
-use Rattle.node_region.specs.Pool.{CellPool, IsCovered, cell_at, leaf_of, IsUsed, count}
-use Rattle.node_region.specs.declared.cell.Cell.{Cell}
+use Rattle.node_region.specs.Pool.{CellPool, IsCovered, leaf_of, count}
 use Rattle.border_climb.specs.Stands.{PartState, IsClimb, IsTrace, Stands}
-use Rattle.border_climb.specs.Linked.{HasRank, Points, IsCellOf, AreLinked}
+use Rattle.border_climb.specs.Linked.{HasRank, Points, AreLinked}
 use Rattle.border_climb.proofs.Linked.{linked-Stands, own-chain}
 use Rattle.border_climb.specs.Parts.{above_cell}
 use Rattle.border_climb.specs.Splicing.{rank_of}
-use Rattle.partition_tree.specs.Numbering.{AreCells, noted, AreByRank, or_none, in_rank, AreNumbers, node_above, inner_parent, placed_tree}
-use Rattle.partition_tree.proofs.CellLemmas.{cell-used, rank-is, link-is, cell-one}
+use Rattle.partition_tree.specs.Numbering.{AreCells, noted, AreByRank, or_none, in_rank, AreNumbers, node_above, inner_parent}
+use Rattle.partition_tree.proofs.CellLemmas.{cell-used, rank-is, link-is}
 
 -- a link that leads somewhere leads to a cell of what comes next
 points-to : (pool : CellPool) (j : ℕ) (w : Option ListedEdge) → Points pool (Some j) w → (f : ListedEdge) × ((w ≡ Some f) × HasRank pool j f.rank)

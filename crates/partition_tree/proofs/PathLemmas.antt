@@ -1,6 +1,6 @@
 -- Paths up a tree in which no link leads down.
-use Rattle.std.proofs.Common.{◌≡◌, ◌≢◌, ℕ, zero, suc, ◌+◌, ◌-◌, ◌<◌, ◌≤◌, Bool, true, false, cond, ◌⊎◌, inl, inr, refl, sym, ◌∙◌, subst, ap, arith}
-use Rattle.std.specs.Prelude.{◌↔◌, ◌==◌, Option, Some, None, MatchOption, unwrap_or}
+use Rattle.std.proofs.Common.{◌≡◌, ◌≢◌, ℕ, zero, suc, ◌+◌, ◌-◌, ◌<◌, ◌≤◌, ◌⊎◌, inl, inr, refl, sym, ◌∙◌, subst, ap, arith}
+use Rattle.std.specs.Prelude.{◌↔◌, Option, Some, None, MatchOption, unwrap_or}
 use Rattle.std.proofs.lemmas.Option.{slice_get_past}
 use Rattle.std.proofs.lemmas.Bool.{cases_order}
 use Rattle.std.proofs.lemmas.Bool.Decides.{eqb_tells}

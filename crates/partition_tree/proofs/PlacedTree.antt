@@ -1,10 +1,10 @@
 -- The tree of a list between places is that of the list between vertices.
-use Rattle.std.proofs.Common.{◌≡◌, ℕ, zero, suc, ◌+◌, ◌<◌, ◌≤◌, inl, inr, refl, sym, ◌∙◌, subst, ap, arith, List, [], ◌∷◌, ◌++◌, length, map}
+use Rattle.std.proofs.Common.{◌≡◌, ℕ, suc, ◌+◌, ◌<◌, inl, inr, refl, ◌∙◌, ap, arith, List, [], ◌∷◌, ◌++◌, length, map}
 use Rattle.std.specs.Prelude.{Option, Some, None, option_map, filter, nat_le, nat_lt, replicate}
 use Rattle.std.specs.List.{range_with_len}
 use Rattle.std.proofs.lemmas.List.{length-map}
-use Rattle.hg_base.specs.Edges.{ListedEdge, EdgeList, IsIn, IsSameSet, AreApart, AreWithin, below, joins, chain, first_edge, next, renamed_edge, renamed, IsOneToOne}
-use Rattle.hg_base.specs.Tree.{ParentTree, place, node_or, tree_of}
+use Rattle.hg_base.specs.Edges.{ListedEdge, EdgeList, IsIn, below, joins, first_edge, next, renamed_edge, renamed}
+use Rattle.hg_base.specs.Tree.{place, node_or, tree_of}
 use Rattle.hg_base.proofs.Sets.{joins-same, chain-same, IsIn-joins_kept}
 use Rattle.hg_base.proofs.Renaming.{filter-mapped, joins-renamed, next-renamed}
 use Rattle.partition_tree.specs.Forest.{lists_of}

@@ -1,5 +1,5 @@
 -- The lists of a small tree.
-use Rattle.std.proofs.Common.{◌≡◌, ◌≢◌, ℕ, zero, suc, ◌<◌, ◌≤◌, refl, arith, [], ◌∷◌}
+use Rattle.std.proofs.Common.{◌≡◌, ℕ, zero, suc, ◌<◌, ◌≤◌, refl, arith, [], ◌∷◌}
 use Rattle.hg_base.specs.Tree.{parent, altitude}
 use Rattle.partition_tree.specs.Forest.{IsForest, lists_of}
 

@@ -3,7 +3,6 @@ pub mod Forest
 pub mod Paths
 pub mod Climbs
 pub mod Children
-pub mod Levels
 pub mod Numbering
 pub mod Planned
 pub mod ForestFields

@@ -11,7 +11,7 @@ mod planned;
 mod report;
 mod tree;
 
-pub use laws::{tree_is_a_level_tree, tree_under_other_names};
+pub use laws::{tree_is_a_forest, tree_under_other_names};
 pub use list::Ranked;
 pub use report::write_tree;
 pub use tree::Tree;

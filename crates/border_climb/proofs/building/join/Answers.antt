@@ -10,9 +10,11 @@ unite-part-requires-clause-lists c =
 
 pub give_all-requires : goal.give_all-requires
 give_all-requires c =
-    let w = c.requires.lists in
-    (w.0 ++ w.1.0, border-taken c.args.left c.args.right c.unite-part.result c.args.border.now w.0 w.1.0 c.count.ensures.pool c.count-2.ensures.pool c.requires.next w.1.1 c.unite-part.ensures.region
-    (c.unite-part.ensures.stands w.0 w.1.0 (united-from c.args.left c.args.right c.args.border.now w.0 w.1.0 w.1.1)))
+    let w = c.requires.lists in (
+      w.0 ++ w.1.0,
+      border-taken c.args.left c.args.right c.unite-part.result c.args.border.now w.0 w.1.0 c.count.ensures.pool c.count-2.ensures.pool c.requires.next w.1.1 c.unite-part.ensures.region
+          (c.unite-part.ensures.stands w.0 w.1.0 (united-from c.args.left c.args.right c.args.border.now w.0 w.1.0 w.1.1)),
+    )
 
 pub returns-clause-stands : goal.returns-clause-stands
 returns-clause-stands c = λ s r b m eq.

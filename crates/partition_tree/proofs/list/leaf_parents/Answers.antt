@@ -1,6 +1,5 @@
-use Rattle.std.proofs.Common.{◌≡◌, ◌<◌, ◌∷◌, ◌++◌, [], ℕ, List, sym, ◌∙◌, ap, subst, arith, length, map, Some}
-use Rattle.std.specs.List.{range_with_len}
-use Rattle.node_region.specs.Pool.{leaf_of, IsUsed}
+use Rattle.std.proofs.Common.{sym, ◌∙◌, ap, arith}
+use Rattle.node_region.specs.Pool.{leaf_of}
 use Rattle.partition_tree.specs.Numbering.{node_above}
 use Rattle.partition_tree.proofs.CellLemmas.{used-within, values-more}
 use Rattle.partition_tree.proofs.list.leaf_parents.Goals as goal

@@ -1,7 +1,7 @@
-use Rattle.std.proofs.Common.{List, ℕ, vec_len, ◌≡◌, ◌≤◌, sym, ◌∙◌, ap, subst, arith, length}
+use Rattle.std.proofs.Common.{List, ℕ, vec_len, ◌≡◌, sym, ◌∙◌, ap, subst, arith, length}
 use Rattle.node_region.specs.Pool.{count}
-use Rattle.partition_tree.specs.Forest.{IsForest, lists_of}
-use Rattle.partition_tree.proofs.ListTree.{IsGiven, given-cells, given-few, cells-links, AreMade, written-tree, made-forest}
+use Rattle.partition_tree.specs.Forest.{lists_of}
+use Rattle.partition_tree.proofs.ListTree.{given-cells, given-few, cells-links, written-tree, made-forest}
 use Rattle.std.specs.Prelude.{Result, Ok, Err, IfOk}
 use Rattle.hg_base.specs.Edges.{EdgeList}
 use Rattle.hg_base.specs.Tree.{ParentTree, tree_of, IsFrontTree}

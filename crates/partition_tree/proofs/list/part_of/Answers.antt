@@ -1,4 +1,4 @@
-use Rattle.std.proofs.Common.{◌≡◌, ◌+◌, ◌∙◌, suc, sym, subst, arith, length}
+use Rattle.std.proofs.Common.{◌≡◌, ◌+◌, ◌∙◌, suc, subst, arith, length}
 use Rattle.border_climb.specs.Stands.{Stands}
 use Rattle.partition_tree.specs.Ranked.{edge_at, first_edges}
 use Rattle.partition_tree.proofs.ListLemmas.{first-new, placed-read}

@@ -17,7 +17,7 @@ overflow_add-given c =
 pub invariant_of-result : goal.invariant_of-result
 invariant_of-result c =
     let next : IsNextTo c.self.inside.region c.other.inside.region = subst (λ (p : PartState). IsNextTo p.region c.other.inside.region) (sym c.self.view_is)
-        (subst (λ (p : PartState). IsNextTo c.args.self.region p.region) (sym c.other.view_is) c.requires.next) in
+    (subst (λ (p : PartState). IsNextTo c.args.self.region p.region) (sym c.other.view_is) c.requires.next) in
     let room : c.append.result.room.chunks ≡ c.self.inside.region.room.chunks = ap (λ (p : CellPool). p.room.chunks) c.append.ensures in
     let had : 2 * c.self.inside.region.room.chunks ≤ vec_capacity c.self.inside.lots + 1 = c.self.invariant.reserved in
     let more : vec_capacity c.self.inside.lots ≤ vec_capacity c.put_behind-lots.result = c.put_behind-lots.ensures.capacity in

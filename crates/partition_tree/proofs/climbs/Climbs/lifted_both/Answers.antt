@@ -1,4 +1,4 @@
-use Rattle.std.proofs.Common.{◌≡◌, ◌≢◌, ◌<◌, sym, ◌∙◌, subst, arith}
+use Rattle.std.proofs.Common.{◌<◌, arith}
 use Rattle.hg_base.specs.Tree.{parent}
 use Rattle.partition_tree.specs.Climbs.{depth, GoesOn}
 use Rattle.partition_tree.proofs.ClimbLemmas.{deep-up, both-jump, both-parent, both-roots}

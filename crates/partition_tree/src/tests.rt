@@ -215,6 +215,25 @@ fn lists(rt: HostRuntime) -> Result<(), Fail> {
     Ok(())
 }
 
+// The part of a tile before it takes in an edge.
+fn opened_part(rt: &impl Abort, alloc: Global, plan: &Plan, tile: u32) -> Result<Part, OutOfMemory>
+    requires { tile < tile_count plan.now }
+    ensures first { IfOk result (λ part. part.region.first ≡ first_place plan.now tile) }
+    ensures count { IfOk result (λ part. count part.region ≡ end_place plan.now tile - first_place plan.now tile) }
+    ensures chunks { IfOk result (λ part. part.region.chunks ≡ 1) }
+    ensures room { IfOk result (λ part. part.region.room ≡ record { places = room_places plan.now tile; chunks = room_tiles plan.now tile }) }
+    ensures lots { IfOk result (λ part. part.lots ≡ []) }
+    ensures stands { IfOk result (λ part. Stands part []) }
+{
+    let _ = plan.n();
+    let (first, count) = plan.range(tile);
+    let room = plan.room_of(tile);
+    assert!(rt; 1 <= count && count <= room.places);
+    assert!(rt; first <= 1_048_576 && room.places <= 1_048_576 - first);
+    assert!(rt; 1 <= room.chunks && room.chunks <= 65_536);
+    Part::of_tile(alloc, first, count, room)
+}
+
 // The part of a tile, which took in the tile's lot.
 fn tile_part(rt: &impl Abort, alloc: Global, plan: &Plan, tile: u32) -> Result<Part, OutOfMemory>
     requires { tile < tile_count plan.now }
@@ -226,12 +245,7 @@ fn tile_part(rt: &impl Abort, alloc: Global, plan: &Plan, tile: u32) -> Result<P
     ensures stands { IfOk result (λ part. Stands part (edges_at plan.now tile)) }
 {
     let _ = plan.n();
-    let (first, count) = plan.range(tile);
-    let room = plan.room_of(tile);
-    assert!(rt; 1 <= count && count <= room.places);
-    assert!(rt; first <= 1_048_576 && room.places <= 1_048_576 - first);
-    assert!(rt; 1 <= room.chunks && room.chunks <= 65_536);
-    let part = Part::of_tile(alloc, first, count, room)?;
+    let part = opened_part(rt, alloc, plan, tile)?;
     Ok(build_tile(part, tile, plan.lot(tile)))
 }
 
@@ -246,8 +260,14 @@ fn joined_part(rt: &impl Abort, alloc: Global, plan: &Plan) -> Result<Part, OutO
     let left = tile_part(rt, alloc, plan, first)?;
     let right = tile_part(rt, alloc, plan, second)?;
     let room = plan.room_of(first);
-    assert!(rt; left.count() <= room.places && right.count() <= room.places - left.count());
-    assert!(rt; left.first() <= right.first() && right.first() - left.first() == left.count());
+    let begins = left.first();
+    let follows = right.first();
+    let places = left.count();
+    let others = right.count();
+    assert!(rt; begins <= follows);
+    assert!(rt; follows - begins == places);
+    assert!(rt; places <= room.places);
+    assert!(rt; others <= room.places - places);
     assert!(rt; 2 <= room.chunks);
     Ok(join(left, right, 2, plan.lot(2)))
 }
@@ -270,7 +290,9 @@ fn graph_of(
     n: u32,
     rows: &[(u32, u32, u32)],
 ) -> Result<Graph, AllocError> {
-    assert!(rt; 1 <= n && n <= 1_048_576 && rows.len() <= 4_194_304);
+    assert!(rt; 1 <= n);
+    assert!(rt; n <= 1_048_576);
+    assert!(rt; rows.len() <= 4_194_304);
     let mut edges = Vec::new(alloc);
     for &(u, v, w) in rows {
         assert!(rt; u < n && v < n && u != v);
@@ -293,7 +315,10 @@ fn assert_planned(
     assert!(rt; 1 <= tile);
     let plan = Plan::blocks(alloc, &graph, &order, tile).expect(rt, "ample memory");
     let part = whole_part(rt, alloc, &plan)?;
-    assert!(rt; part.first() == 0 && part.count() == plan.n());
+    let places = part.count();
+    let vertices = plan.n();
+    assert!(rt; part.first() == 0);
+    assert!(rt; places == vertices);
     let tree = Tree::of_part(alloc, &order, &plan, &part)?;
     let text = write_tree(alloc, &tree)?;
     assert_eq!(rt; text.as_slice(), report.as_bytes());

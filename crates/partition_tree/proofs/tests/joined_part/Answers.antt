@@ -1,4 +1,4 @@
-use Rattle.std.proofs.Common.{◌≡◌, ℕ, ◌-◌, ◌*◌, sym, ◌∙◌, subst, ap, arith}
+use Rattle.std.proofs.Common.{◌≡◌, ℕ, sym, ◌∙◌, subst, ap, arith}
 use Rattle.hg_base.specs.declared.graph.Room.{Room}
 use Rattle.border_climb.specs.Stands.{Stands}
 use Rattle.border_climb.specs.Parts.{CanJoin}

@@ -1,15 +1,14 @@
 -- The lots of a plan are those that parts can take in.
-use Rattle.std.proofs.Common.{◌≡◌, ◌≢◌, ℕ, ◌+◌, ◌-◌, ◌*◌, ◌<◌, ◌≤◌, ◌⊎◌, inl, inr, refl, sym, ◌∙◌, subst, ap, arith, List, [], ◌∷◌, ◌++◌, map}
+use Rattle.std.proofs.Common.{◌≡◌, ◌≢◌, ℕ, ◌-◌, ◌<◌, ◌≤◌, inl, inr, refl, sym, ◌∙◌, subst, ap, arith, [], ◌∷◌, ◌++◌, map}
 use Rattle.hg_base.specs.Edges.{ListedEdge, EdgeList, IsIn, AreApart}
 use Rattle.hg_base.specs.Placed.{placed}
 use Rattle.hg_base.specs.declared.graph.PlacedEdge.{PlacedEdge}
-use Rattle.hg_base.proofs.Components.{IsIn-append}
 use Rattle.node_region.specs.Pool.{CellPool, count, IsCovered}
 use Rattle.border_climb.specs.Stands.{PartState, Stands}
 use Rattle.border_climb.specs.Parts.{IsLot, CanJoin, listed}
 use Rattle.border_climb.specs.Parts as parts
 use Rattle.tile_plan.specs.Plan.{TilePlan, IsPlan, IsPlaceOf, tile_count, part_count, left, right, first_place, end_place, lot_edges, edges_at}
-use Rattle.tile_plan.specs.Laws.{JoinsHalves, IsTile, HasEdges, Crosses}
+use Rattle.tile_plan.specs.Laws.{IsTile, HasEdges, Crosses}
 use Rattle.tile_plan.proofs.Ranges.{is_tile}
 use Rattle.tile_plan.proofs.Edges.{joins_halves, crosses, has_edges}
 

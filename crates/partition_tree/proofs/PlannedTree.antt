@@ -1,16 +1,16 @@
 -- The numbering of a part that took in the lots of all parts of a plan is the tree of the plan's edges.
-use Rattle.std.proofs.Common.{◌≡◌, ℕ, zero, suc, ◌+◌, ◌*◌, ◌<◌, ◌≤◌, refl, sym, ◌∙◌, subst, ap, arith, List, ◌++◌, length, map, get_or}
+use Rattle.std.proofs.Common.{◌≡◌, ℕ, zero, suc, ◌+◌, ◌*◌, ◌<◌, ◌≤◌, sym, ◌∙◌, subst, ap, arith, List, ◌++◌, length, map, get_or}
 use Rattle.std.specs.Prelude.{Option, Some, replicate, slice_get, Result, Ok, Err, IfOk}
 use Rattle.std.specs.Option.{option_map_or}
 use Rattle.std.specs.List.{range_with_len}
 use Rattle.std.proofs.lemmas.List.FromFn.{length-map-range_with_len}
 use Rattle.hg_base.specs.Graph.{WeightedGraph}
 use Rattle.hg_base.specs.Rank.{listed, number_at, ranked}
-use Rattle.hg_base.specs.Edges.{ListedEdge, EdgeList, IsIn, AreApart, AreWithin, joins, next, renamed}
-use Rattle.hg_base.specs.Tree.{ParentTree, tree_of, node_or, place, IsFrontTree}
+use Rattle.hg_base.specs.Edges.{ListedEdge, EdgeList, IsIn, next}
+use Rattle.hg_base.specs.Tree.{ParentTree, tree_of, node_or, IsFrontTree}
 use Rattle.hg_base.proofs.FrontOnce.{front-tree}
 use Rattle.hg_base.proofs.Ranked.{ranked-at}
-use Rattle.node_region.specs.Pool.{count, leaf_of, IsCovered}
+use Rattle.node_region.specs.Pool.{count, leaf_of}
 use Rattle.border_climb.specs.Stands.{PartState, Stands}
 use Rattle.border_climb.specs.Splicing.{rank_of}
 use Rattle.edge_order.specs.Order.{EdgeOrder, order_of, number_at_rank}

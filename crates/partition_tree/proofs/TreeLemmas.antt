@@ -1,21 +1,15 @@
 -- The tree of an edge list is a forest, and its altitudes are the weights at which vertices get joined.
-use Rattle.std.proofs.Common.{◌≡◌, ◌≢◌, ℕ, suc, ◌+◌, ◌<◌, ◌≤◌, true, inl, inr, refl, sym, ◌∙◌, subst, ap, arith, [], length, map, length-append}
-use Rattle.std.specs.Prelude.{◌↔◌, replicate, nat_le}
-use Rattle.std.proofs.lemmas.Bool.{leb-true}
+use Rattle.std.proofs.Common.{◌≡◌, ◌≢◌, ℕ, ◌+◌, ◌<◌, ◌≤◌, inl, inr, refl, sym, ◌∙◌, ap, arith, length, map, length-append}
+use Rattle.std.specs.Prelude.{replicate}
 use Rattle.std.proofs.lemmas.List.{length-map, length-replicate}
-use Rattle.hg_base.specs.Edges.{ListedEdge, EdgeList, IsIn, AreApart, AreWithin, Joined, joined, below, joins, components, is_least, count_below, IsSameSet}
-use Rattle.hg_base.specs.Tree.{parent, altitude, IsAbove, place, tree_of, HasComponent, IsFrontTree}
-use Rattle.hg_base.specs.Saliency.{at_most, AreByWeight}
-use Rattle.hg_base.proofs.Walks.{IsSame-joined, joined-walk, Joined-joined}
-use Rattle.hg_base.proofs.Members.{IsIn-kept, IsIn-below}
-use Rattle.hg_base.proofs.Sets.{joined-among, IsIn-joins, IsIn-joins_kept}
+use Rattle.hg_base.specs.Edges.{ListedEdge, EdgeList, AreApart, AreWithin, joined, joins, components, is_least, count_below}
+use Rattle.hg_base.specs.Tree.{parent, altitude, place, tree_of}
+use Rattle.hg_base.specs.Saliency.{AreByWeight}
+use Rattle.hg_base.proofs.Sets.{IsIn-joins_kept}
 use Rattle.hg_base.proofs.Components.{joins-count}
 use Rattle.hg_base.proofs.Nodes.{length-parents}
-use Rattle.hg_base.proofs.Paths.{ancestor-path, leaving-joins}
-use Rattle.hg_base.proofs.FrontTree.{above-made, LastBelow, last_below, component-leaf, component-made}
-use Rattle.hg_base.proofs.FrontOnce.{front-tree}
 use Rattle.hg_base.proofs.Meeting.{altitude-leaf, altitude-inner}
-use Rattle.hg_base.proofs.TreeNodes.{made-within, IsMaker, HasParent, node-cases, leaf-parent, made-parent, front-light, weights-front}
+use Rattle.hg_base.proofs.TreeNodes.{made-within, HasParent, node-cases, leaf-parent, made-parent}
 use Rattle.partition_tree.specs.Forest.{nodes, IsForest}
 use Rattle.partition_tree.proofs.ChildLemmas.{count-less}
 

@@ -1,6 +1,5 @@
-use Rattle.std.proofs.Common.{◌≡◌, ◌<◌, ◌∷◌, ◌++◌, [], ℕ, List, sym, ◌∙◌, ap, subst, arith, length, map, Some, Option}
-use Rattle.std.specs.List.{range_with_len}
-use Rattle.node_region.specs.Pool.{leaf_of, IsUsed}
+use Rattle.std.proofs.Common.{sym, ◌∙◌, ap, arith}
+use Rattle.node_region.specs.Pool.{leaf_of}
 use Rattle.tile_plan.specs.Plan.{place_of}
 use Rattle.partition_tree.specs.Numbering.{node_above}
 use Rattle.partition_tree.proofs.CellLemmas.{used-within, values-more}

@@ -1,8 +1,8 @@
 use Rattle.std.proofs.Common.{List, ℕ, vec_len, ◌≡◌, ◌≤◌, sym, ◌∙◌, ap, subst, arith, length, Option}
-use Rattle.partition_tree.specs.Forest.{IsForest, lists_of}
+use Rattle.partition_tree.specs.Forest.{lists_of}
 use Rattle.partition_tree.specs.Numbering.{AreCells, AreByRank, in_rank}
 use Rattle.partition_tree.proofs.ListTree.{cells-links}
-use Rattle.partition_tree.proofs.PlannedTree.{IsPlanned, planned-cells, planned-few, AreDrawn, drawn-tree, drawn-forest, drawn-told, fronts-told}
+use Rattle.partition_tree.proofs.PlannedTree.{planned-cells, planned-few, drawn-tree, drawn-forest, drawn-told, fronts-told}
 use Rattle.partition_tree.proofs.planned.numbered.Goals as goal
 
 pub of-requires-clause-cells : goal.of-requires-clause-cells

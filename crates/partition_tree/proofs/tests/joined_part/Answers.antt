@@ -1,4 +1,5 @@
-use Rattle.std.proofs.Common.{◌≡◌, ℕ, ◌-◌, ◌*◌, sym, subst, ap, arith}
+use Rattle.std.proofs.Common.{◌≡◌, ℕ, sym, ◌∙◌, subst, ap, arith}
+use Rattle.hg_base.specs.declared.graph.Room.{Room}
 use Rattle.border_climb.specs.Stands.{Stands}
 use Rattle.border_climb.specs.Parts.{CanJoin}
 use Rattle.tile_plan.specs.Plan.{edges_at, left, lot_edges, right, root}
@@ -36,6 +37,6 @@ returns g c =
 pub join-requires-clause-next : goal.join-requires-clause-next
 join-requires-clause-next g c = record {
   next = omega (arith, c.left.ranges);
-  places = omega (arith, c.left.ranges);
-  chunks = omega (arith, c.left.ranges);
+  places = omega (arith, ap (λ (r : Room). r.places) (c.in_ok-left.ensures.room ∙ sym c.room_of-room.ensures.value), c.count-places.ensures.value, c.count-others.ensures.value);
+  chunks = omega (arith, ap (λ (r : Room). r.chunks) (c.in_ok-left.ensures.room ∙ sym c.room_of-room.ensures.value), c.in_ok-left.ensures.chunks, c.in_ok-right.ensures.chunks);
 }

@@ -74,6 +74,12 @@ refusal_in forms.Pgm report input = drawing_fault report input
 unfoldable pub refusal : Request → Input → Option InputFault
 refusal request input = refusal_in request.form request.report input
 
+-- what making a report of this form answers: exactly its bytes, or why there is none, or that memory ran out
+abbrev pub IsReportIn : Form → Report → Input → Result (Vec ℕ Global) RunFault → Type 0
+IsReportIn form report input (Ok bytes) = (refusal_in form report input ≡ None) × (bytes.items ≡ report_in form report input)
+IsReportIn form report input (Err (faults.Input fault)) = refusal_in form report input ≡ Some fault
+IsReportIn form report input (Err faults.OutOfMemory) = Unit {0}
+
 -- what making a report answers: exactly its bytes, or why it can't be made of the input, or that memory ran out
 abbrev pub IsReport : Request → Input → Result (Vec ℕ Global) RunFault → Type 0
 IsReport request input (Ok bytes) = (refusal request input ≡ None) × (bytes.items ≡ report_of request input)

@@ -36,6 +36,9 @@ drawn_regions r t l level w h bytes is made wide high drawn few =
     let low : (regions (graph_of (Picture r)) level).count ≤ 65535 = subst (λ (m : Labelling). m.count ≤ 65535) are (omega (arith, few)) in
     (rw (le-ltb _ _ low) refl, drawn ∙ ap (λ (m : Labelling). labels_picture m w h) are ∙ ap (λ (n : ℕ). labels_picture (regions (graph_of (Picture r)) level) n h) wide ∙ ap (λ (n : ℕ). labels_picture (regions (graph_of (Picture r)) level) r.width n) high)
 
+abbrev too_many : ℕ → InputFault
+too_many count = record { kind = TooManyLabels; at = 0; value = count }
+
 -- too many labels are a fault
 pub too_many_regions : (r : Raster) (t : ParentTree) (l : Labelling) (level count : ℕ) → IsTreeOf (graph_of (Picture r)) t → l ≡ labelling (shares t level) t.leaves → count ≡ l.count → 65535 < l.count
     → drawing_fault (Cut None level) (Picture r) ≡ Some (record { kind = TooManyLabels; at = 0; value = count })
@@ -44,4 +47,5 @@ too_many_regions r t l level count is made many more =
     let are : l ≡ regions (graph_of (Picture r)) level = are-regions (graph_of (Picture r)) t l level is made in
     let same : (regions (graph_of (Picture r)) level).count ≡ count = sym (many ∙ ap (λ (m : Labelling). m.count) are) in
     let high : 65535 < (regions (graph_of (Picture r)) level).count = subst (λ (m : Labelling). 65535 < m.count) are more in
-    rw (lt-ltb _ _ high) ap (λ (n : ℕ). Some (record { kind = TooManyLabels; at = 0; value = n })) same
+    let fault : drawing_fault (Cut None level) (Picture r) ≡ Some (too_many (regions (graph_of (Picture r)) level).count) = rw (lt-ltb _ _ high) refl in
+    fault ∙ ap (λ (n : ℕ). Some (too_many n)) same

@@ -118,11 +118,7 @@ fn zones_text(alloc: Global, tree: &Tree) -> Result<Vec<u8>, OutOfMemory>
 }
 
 // The tree of a graph.
-fn tree_of(
-    rt: &(impl Threads + Sync),
-    alloc: Global,
-    graph: &Graph,
-) -> Result<Tree, OutOfMemory>
+fn tree_of(rt: &(impl Threads + Sync), alloc: Global, graph: &Graph) -> Result<Tree, OutOfMemory>
     ensures { IfOk result (IsTreeOf graph.now) }
 {
     let order = Order::of(rt, alloc, graph)?;

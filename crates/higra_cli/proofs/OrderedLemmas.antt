@@ -64,7 +64,7 @@ rise_in_order g edges same = subst (λ (es : List Ranked). IsNonDecreasingBy alt
 edge_at-ranked : (g : WeightedGraph) (k : ℕ) → k < length g.edges → edge_at (tree_edges g) k ≡ listed g k (number_at g k)
 edge_at-ranked g k h =
     let there : slice_get (tree_edges g) k ≡ Some (tree_edge (listed g k (number_at g k))) =
-        slice_get-mapped tree_edge (ranked g) k _ (slice_get-values (λ j. listed g j (number_at g j)) 0 (length g.edges) k k h (omega arith)) in
+    slice_get-mapped tree_edge (ranked g) k _ (slice_get-values (λ j. listed g j (number_at g j)) 0 (length g.edges) k k h (omega arith)) in
     rw there refl
 
 -- the edges of the list, with their places as ranks, are the ranked edges

@@ -74,7 +74,11 @@ fn reports(rt: HostRuntime) -> Result<(), Fail> {
             triangle,
             "tree 5 3\n0 3 0\n1 3 0\n2 4 0\n3 4 1\n4 4 1\n",
         ),
-        (&["zones"], triangle, "tree 4 3\n0 3 0\n1 3 0\n2 3 0\n3 3 1\n"),
+        (
+            &["zones"],
+            triangle,
+            "tree 4 3\n0 3 0\n1 3 0\n2 3 0\n3 3 1\n",
+        ),
         (&["saliency"], triangle, "saliency 3\n0 1\n1 1\n2 1\n"),
         (
             &["saliency"],

@@ -50,11 +50,7 @@ fn kind_named(text: &str) -> Option<Option<Kind>>
     ensures kind { result ≡ kind_named text.now }
     ensures own { IfSome result (λ kind. kind ≡ None) }
 {
-    if text == "altitude" {
-        Some(None)
-    } else {
-        None
-    }
+    if text == "altitude" { Some(None) } else { None }
 }
 
 /// `--level`: the greatest altitude below which a tree isn't cut.

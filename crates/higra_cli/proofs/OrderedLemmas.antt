@@ -1,6 +1,6 @@
 -- The list of a graph's edges in order of rank, and the tree that it gives.
 use Rattle.std.proofs.Common.{◌≡◌, ◌≢◌, ℕ, ◌<◌, ◌≤◌, List, [], ◌∷◌, length, map, get_or, refl, sym, ap, ◌∙◌, subst, arith, inl, inr}
-use Rattle.std.specs.Prelude.{All, Some, slice_get, Result, Ok, Err, IfOk, Vec}
+use Rattle.std.specs.Prelude.{All, Option, Some, None, slice_get, Result, Ok, Err, IfOk, Vec}
 use Rattle.std.specs.declared.alloc.Global.{Global}
 use Rattle.std.specs.List.{range_with_len}
 use Rattle.std.proofs.lemmas.List.{get_or-map, length-map}
@@ -8,7 +8,9 @@ use Rattle.std.proofs.lemmas.List.FromFn.{fill_by_all, length-map-range_with_len
 use Rattle.std.specs.List.Sorted.{IsNonDecreasingBy}
 use Rattle.hg_base.specs.Edges.{EdgeList, AreWithin, Joined}
 use Rattle.hg_base.specs.Graph.{WeightedGraph, first_end, second_end}
-use Rattle.hg_base.specs.Levels.{AltitudesRise}
+use Rattle.hg_base.specs.Labels.{labelling}
+use Rattle.hg_base.specs.Levels.{AltitudesRise, shares}
+use Rattle.label_writer.specs.Report.{labels_report}
 use Rattle.hg_base.specs.Rank.{listed, number_at, rank, ranked}
 use Rattle.hg_base.specs.Saliency.{at_most}
 use Rattle.hg_base.specs.Saliencies.{saliency}
@@ -34,7 +36,8 @@ use Rattle.higra_cli.specs.Ordered.{altitude, tree_edge, tree_edges, IsTreeOf}
 use Rattle.higra_cli.specs.Reports.{text_of}
 use Rattle.higra_cli.specs.Running.{IsHierarchy}
 use Rattle.higra_cli.specs.declared.request.Report.{Report}
-use Rattle.higra_cli.specs.declared.request.Report.TheVariants.{Zones}
+use Rattle.higra_cli.specs.declared.request.Report.TheVariants.{Cut, Zones}
+use Rattle.higra_cli.specs.declared.request.Kind.{Kind}
 
 -- there are as many edges in the list as in the graph
 pub length-tree_edges : (g : WeightedGraph) → length (tree_edges g) ≡ length g.edges
@@ -61,7 +64,7 @@ rise_in_order g edges same = subst (λ (es : List Ranked). IsNonDecreasingBy alt
 edge_at-ranked : (g : WeightedGraph) (k : ℕ) → k < length g.edges → edge_at (tree_edges g) k ≡ listed g k (number_at g k)
 edge_at-ranked g k h =
     let there : slice_get (tree_edges g) k ≡ Some (tree_edge (listed g k (number_at g k))) =
-        slice_get-mapped tree_edge (ranked g) k _ (slice_get-values (λ j. listed g j (number_at g j)) 0 (length g.edges) k k h (omega arith)) in
+    slice_get-mapped tree_edge (ranked g) k _ (slice_get-values (λ j. listed g j (number_at g j)) 0 (length g.edges) k k h (omega arith)) in
     rw there refl
 
 -- the edges of the list, with their places as ranks, are the ranked edges
@@ -108,3 +111,11 @@ pub text_of_zones : {E : Type 0} (report : Report) (g : WeightedGraph) (t : Pare
 unfolding text_of
 text_of_zones report g t (Ok text) same is made = made ∙ ap (λ (u : ParentTree). tree_report (zones_of u)) is.same ∙ ap (λ (q : Report). text_of q g) (sym same)
 text_of_zones report g t (Err e) same is made = tt
+
+-- the text of a graph's regions at a level
+pub text_of_regions : {E : Type 0} (report : Report) (kind : Option Kind) (level : ℕ) (g : WeightedGraph) (t : ParentTree) (r : Result (Vec ℕ Global) E) → report ≡ Cut kind level → kind ≡ None → IsTreeOf g t
+    → IfOk r (λ text. text.items ≡ labels_report (labelling (shares t level) t.leaves)) → IfOk r (λ text. text.items ≡ text_of report g)
+unfolding text_of
+text_of_regions report kind level g t (Ok text) same own is made =
+    made ∙ ap (λ (u : ParentTree). labels_report (labelling (shares u level) u.leaves)) is.same ∙ ap (λ (k : Option Kind). text_of (Cut k level) g) (sym own) ∙ ap (λ (q : Report). text_of q g) (sym same)
+text_of_regions report kind level g t (Err e) same own is made = tt

@@ -86,7 +86,7 @@ first_more old middle new count more buffer into h k so_far here =
 -- the buffer keeps its length
 pub length-front : (count : ℕ) (buffer into : List ℕ) → count ≤ length buffer → length into ≡ length buffer - count → length (put_mid count (length buffer - count) buffer into) ≡ length buffer
 length-front count buffer into h long =
-    same_len_mid count (length buffer - count) buffer into (long ∙ sym (length-take-le (length buffer - count) (drop count buffer) (omega (arith, length-drop count buffer)) ))
+    same_len_mid count (length buffer - count) buffer into (long ∙ sym (length-take-le (length buffer - count) (drop count buffer) (omega (arith, length-drop count buffer))))
 
 -- the bytes so far, and a piece through which the decoder read on
 pub fed_more : (old middle new : Told) (before between after : InputDecoder) (more buffer : List ℕ) (count : ℕ) → HasFed old middle before between more → Consumes middle.bytes new.bytes (take count buffer)
@@ -97,13 +97,15 @@ fed_more old middle new before between after more buffer count fed here on withi
       form = on.form ∙ fed.on.form;
       taken = omega (arith, on.taken, fed.on.taken, length-append more (take count buffer));
       read = λ bytes h. subst (λ (bs : List ℕ). HasRead after bs) (append_assoc bytes more (take count buffer)) (on.read (bytes ++ more) (fed.on.read bytes h));
-    } in
-    (more ++ take count buffer, record {
-      gave = Consumes-trans old.bytes middle.bytes new.bytes more (take count buffer) fed.gave here;
-      on = whole;
-      short = omega (arith, on.taken, piece, short);
-      quiet = quiet ∙ fed.quiet;
-    })
+    } in (
+      more ++ take count buffer,
+      record {
+        gave = Consumes-trans old.bytes middle.bytes new.bytes more (take count buffer) fed.gave here;
+        on = whole;
+        short = omega (arith, on.taken, piece, short);
+        quiet = quiet ∙ fed.quiet;
+      },
+    )
 
 -- all that the source gave, where the piece isn't too long
 pub fed_most : (old middle new : Told) (before between : InputDecoder) (more buffer : List ℕ) (count : ℕ) → HasFed old middle before between more → Consumes middle.bytes new.bytes (take count buffer)

@@ -1,34 +1,84 @@
 -- Which bytes a report about an input has.
-use Rattle.std.specs.Prelude.{◌≡◌, ℕ, List, Option, Some, None, Result, Ok, Err, Vec}
+use Rattle.std.specs.Prelude.{◌≡◌, ℕ, nat_lt, if◌then◌else◌, List, [], Option, Some, None, Result, Ok, Err, Vec}
 use Rattle.std.specs.declared.alloc.Global.{Global}
 use Rattle.hg_base.specs.Graph.{WeightedGraph}
+use Rattle.hg_base.specs.Labels.{Labelling, labelling}
+use Rattle.hg_base.specs.Levels.{shares}
 use Rattle.hg_base.specs.Tree.{graph_tree}
 use Rattle.hg_base.specs.Zones.{zones_of}
 use Rattle.hg_base.specs.Saliencies.{saliencies}
 use Rattle.hg_base.specs.declared.fault.InputFault.{InputFault}
+use Rattle.hg_base.specs.declared.fault.FaultKind.TheVariants.{NotAPicture, TooManyLabels}
+use Rattle.label_writer.specs.Report.{labels_picture, labels_report}
 use Rattle.partition_tree.specs.Report.{tree_report}
 use Rattle.saliency.specs.Report.{saliency_report}
 use Rattle.higra_cli.specs.Inputs.{graph_of}
+use Rattle.higra_cli.specs.declared.request.Form.{Form}
+use Rattle.higra_cli.specs.declared.request.Form.TheVariants as forms
 use Rattle.higra_cli.specs.declared.request.Report.{Report}
 use Rattle.higra_cli.specs.declared.request.Report.TheVariants as reports
 use Rattle.higra_cli.specs.declared.request.Request.{Request}
 use Rattle.higra_cli.specs.declared.input.Input.{Input}
+use Rattle.higra_cli.specs.declared.input.Input.TheVariants.{Edges, Picture}
 use Rattle.higra_cli.specs.declared.writing.RunFault.{RunFault}
 use Rattle.higra_cli.specs.declared.writing.RunFault.TheVariants as faults
+
+-- the regions of a graph's tree at a level, labelled by least vertex
+abbrev pub regions : WeightedGraph → ℕ → Labelling
+regions g level = labelling (shares (graph_tree g) level) g.n
+
+-- the labels of a report; so far only a cut of the graph's own tree has some
+abbrev pub labels_of : Report → WeightedGraph → Labelling
+labels_of reports.Tree g = record { labels = []; count = 0 }
+labels_of reports.Zones g = record { labels = []; count = 0 }
+labels_of reports.Saliency g = record { labels = []; count = 0 }
+labels_of (reports.Cut None level) g = regions g level
+labels_of (reports.Cut (Some kind) level) g = record { labels = []; count = 0 }
 
 -- the text of a report about a graph
 unfoldable pub text_of : Report → WeightedGraph → List ℕ
 text_of reports.Tree g = tree_report (graph_tree g)
 text_of reports.Zones g = tree_report (zones_of (graph_tree g))
 text_of reports.Saliency g = saliency_report (saliencies g)
+text_of (reports.Cut kind level) g = labels_report (labels_of (reports.Cut kind level) g)
+
+-- the picture of a report about an input: the labels of a picture's pixels
+unfoldable pub picture_of : Report → Input → List ℕ
+picture_of report (Edges graph) = []
+picture_of report (Picture raster) = labels_picture (labels_of report (graph_of (Picture raster))) raster.width raster.height
+
+-- a report of this form
+abbrev pub report_in : Form → Report → Input → List ℕ
+report_in forms.Text report input = text_of report (graph_of input)
+report_in forms.Pgm report input = picture_of report input
 
 -- the report that is asked for, about an input
 unfoldable pub report_of : Request → Input → List ℕ
-report_of request input = text_of request.report (graph_of input)
+report_of request input = report_in request.form request.report input
+
+-- labels that are too many for a picture, if they are
+unfoldable pub label_fault : ℕ → Option InputFault
+label_fault count = if nat_lt 65535 count then Some (record { kind = TooManyLabels; at = 0; value = count }) else None
+
+-- why an input can't be drawn, if it can't: it is no picture, or it has too many labels
+unfoldable pub drawing_fault : Report → Input → Option InputFault
+drawing_fault report (Edges graph) = Some (record { kind = NotAPicture; at = 0; value = 0 })
+drawing_fault report (Picture raster) = label_fault (labels_of report (graph_of (Picture raster))).count
+
+-- why there is no report of this form, if there is none
+abbrev pub refusal_in : Form → Report → Input → Option InputFault
+refusal_in forms.Text report input = None
+refusal_in forms.Pgm report input = drawing_fault report input
 
 -- why the report can't be made of the input, if it can't
 unfoldable pub refusal : Request → Input → Option InputFault
-refusal request input = None
+refusal request input = refusal_in request.form request.report input
+
+-- what making a report of this form answers: exactly its bytes, or why there is none, or that memory ran out
+abbrev pub IsReportIn : Form → Report → Input → Result (Vec ℕ Global) RunFault → Type 0
+IsReportIn form report input (Ok bytes) = (refusal_in form report input ≡ None) × (bytes.items ≡ report_in form report input)
+IsReportIn form report input (Err (faults.Input fault)) = refusal_in form report input ≡ Some fault
+IsReportIn form report input (Err faults.OutOfMemory) = Unit {0}
 
 -- what making a report answers: exactly its bytes, or why it can't be made of the input, or that memory ran out
 abbrev pub IsReport : Request → Input → Result (Vec ℕ Global) RunFault → Type 0

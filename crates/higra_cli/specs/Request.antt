@@ -1,13 +1,14 @@
 -- Which texts of a command line give which request: the table of the words and options.
-use Rattle.std.specs.Prelude.{ℕ, ◌^◌, Bool, ◌&&◌, ◌||◌, nat_le, nat_lt, List, length, Option, Some, None, is_some, codes, if◌then◌else◌}
+use Rattle.std.specs.Prelude.{ℕ, ◌^◌, Bool, true, false, ◌&&◌, ◌||◌, nat_le, nat_lt, List, length, Option, Some, None, is_some, codes, if◌then◌else◌}
 use Rattle.std.specs.Char.{is_ascii_digit}
 use Rattle.std.specs.List.{list_all}
 use Rattle.std.specs.Str.{bytes_eq}
 use Rattle.std.specs.Str.Parse.{digits_value}
+use Rattle.higra_cli.specs.declared.request.Kind.{Kind}
 use Rattle.higra_cli.specs.declared.request.Report.{Report}
 use Rattle.higra_cli.specs.declared.request.Report.TheVariants as reports
 use Rattle.higra_cli.specs.declared.request.Form.{Form}
-use Rattle.higra_cli.specs.declared.request.Form.TheVariants.{Text}
+use Rattle.higra_cli.specs.declared.request.Form.TheVariants.{Pgm, Text}
 use Rattle.higra_cli.specs.declared.request.Made.{Made}
 use Rattle.higra_cli.specs.declared.request.Request.{Request}
 
@@ -59,24 +60,51 @@ tile_by = value_or 64 (number_in 1 1048576)
 abbrev pub workers_by : Option (List ℕ) → Option ℕ
 workers_by = value_or 4 (number_in 1 64)
 
--- the form with this name; `pgm` is one where a report takes it, and none does so far
-abbrev pub form_named : List ℕ → Option Form
-form_named text = if bytes_eq text (codes "text") then Some Text else None
-
--- `--form`: `text`, or else `text`
-abbrev pub form_by : Option (List ℕ) → Option Form
-form_by = value_or Text form_named
-
 -- a report that takes no `--kind` and no `--level`
 abbrev pub alone : CommandLine → Report → Option Report
 alone line report = if is_some line.kind || is_some line.level then None else Some report
+
+-- the tree that a kind cuts; so far it is the graph's own, whose kind is `altitude`
+abbrev pub kind_named : List ℕ → Option (Option Kind)
+kind_named text = if bytes_eq text (codes "altitude") then Some None else None
+
+-- `--kind` of a cut: `altitude`, or else `altitude`
+abbrev pub kind_by : Option (List ℕ) → Option (Option Kind)
+kind_by = value_or None kind_named
+
+-- `--level`: a number, or else 0
+abbrev pub level_by : Option (List ℕ) → Option ℕ
+level_by = value_or 0 number
+
+-- a cut, by its `--kind` and its `--level`
+abbrev pub cut_by : CommandLine → Option Report
+cut_by line = do
+  kind ← kind_by line.kind
+  level ← level_by line.level
+  Some (reports.Cut kind level)
 
 -- REPORT, with the options that this report takes
 abbrev pub report_by : CommandLine → Option Report
 report_by line =
     if bytes_eq line.report (codes "tree") then alone line reports.Tree
     else (if bytes_eq line.report (codes "zones") then alone line reports.Zones
-    else (if bytes_eq line.report (codes "saliency") then alone line reports.Saliency else None))
+    else (if bytes_eq line.report (codes "saliency") then alone line reports.Saliency
+    else (if bytes_eq line.report (codes "cut") then cut_by line else None)))
+
+-- whether a report can be drawn as a picture: a cut, whose labels are its samples
+abbrev pub can_be_drawn : Report → Bool
+can_be_drawn reports.Tree = false
+can_be_drawn reports.Zones = false
+can_be_drawn reports.Saliency = false
+can_be_drawn (reports.Cut kind level) = true
+
+-- the form with this name, where the report can have it
+abbrev pub form_named : Report → List ℕ → Option Form
+form_named report text = if bytes_eq text (codes "text") then Some Text else (if bytes_eq text (codes "pgm") && can_be_drawn report then Some Pgm else None)
+
+-- `--form`: `text`, or `pgm` where the report can be drawn; or else `text`
+abbrev pub form_by : Report → Option (List ℕ) → Option Form
+form_by report = value_or Text (form_named report)
 
 -- `--seed`: 0 to 4,294,967,295, or else 1
 abbrev pub seed_by : Option (List ℕ) → Option ℕ
@@ -97,6 +125,6 @@ request_by line = do
   report ← report_by line
   tile ← tile_by line.tile
   workers ← workers_by line.workers
-  form ← form_by line.form
+  form ← form_by report line.form
   made ← made_by line.make line.seed
   Some (record { report = report; tile = tile; workers = workers; form = form; made = made })

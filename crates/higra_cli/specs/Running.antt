@@ -1,5 +1,5 @@
 -- What a run leaves behind, by how it ended.
-use Rattle.std.specs.Prelude.{◌≡◌, ◌⊎◌, ℕ, ◌-◌, ◌^◌, ◌<◌, ◌≤◌, List, length, Option, Some, None, Result, Ok, Err, MatchResult}
+use Rattle.std.specs.Prelude.{◌≡◌, ◌⊎◌, ℕ, ◌-◌, ◌^◌, ◌<◌, ◌≤◌, true, List, length, Option, Some, None, Result, Ok, Err, MatchResult}
 use Rattle.std.specs.Io.KnownBytes.{Appends}
 use Rattle.hg_base.specs.Graph.{WeightedGraph}
 use Rattle.hg_base.specs.Outside.{Rose, AppendsPrefix}
@@ -13,13 +13,28 @@ use Rattle.higra_cli.specs.Command.{requested}
 use Rattle.higra_cli.specs.Inputs.{graph_of, input_for}
 use Rattle.higra_cli.specs.Reading.{Told, GaveInput, StopsReading}
 use Rattle.higra_cli.specs.Reports.{refusal, report_of}
+use Rattle.higra_cli.specs.Request.{can_be_drawn}
 use Rattle.higra_cli.specs.declared.input.Input.{Input}
 use Rattle.higra_cli.specs.declared.input.Input.TheVariants.{Picture}
 use Rattle.higra_cli.specs.declared.request.Made.{Made}
 use Rattle.higra_cli.specs.declared.request.Request.{Request}
+use Rattle.higra_cli.specs.declared.request.Form.{Form}
 use Rattle.higra_cli.specs.declared.request.Form.TheVariants as forms
+use Rattle.higra_cli.specs.declared.request.Report.{Report}
+use Rattle.higra_cli.specs.declared.request.Report.TheVariants as reports
 use Rattle.higra_cli.specs.declared.ending.Status.{Status}
 use Rattle.higra_cli.specs.declared.ending.Status.TheVariants as statuses
+
+-- the report can have the form: it is a text, or a picture where it can be drawn
+abbrev pub IsFormOf : Report → Form → Type 0
+IsFormOf report form = (form ≡ forms.Text) ⊎ (can_be_drawn report ≡ true)
+
+-- so far a cut is of the graph's own tree
+abbrev pub CutsOwn : Report → Type 0
+CutsOwn reports.Tree = Unit {0}
+CutsOwn reports.Zones = Unit {0}
+CutsOwn reports.Saliency = Unit {0}
+CutsOwn (reports.Cut kind level) = kind ≡ None
 
 -- what a report may be asked for
 pub record CanReport (request : Request) : Type 0 where
@@ -27,7 +42,8 @@ pub record CanReport (request : Request) : Type 0 where
   pub tile : request.tile ≤ 1048576
   pub some_worker : 1 ≤ request.workers
   pub workers : request.workers ≤ 64
-  pub form : request.form ≡ forms.Text
+  pub form : IsFormOf request.report request.form
+  pub own : CutsOwn request.report
 
 -- the side of a picture that can be made
 pub record CanMake (m : Made) : Type 0 where

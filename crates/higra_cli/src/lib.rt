@@ -3,6 +3,7 @@
 
 mod command;
 mod decoding;
+mod drawing;
 mod ending;
 mod input;
 pub mod laws;
@@ -17,7 +18,7 @@ mod writing;
 pub use ending::Status;
 pub use input::Input;
 pub use line::FaultLine;
-pub use request::{Form, Made, Report, Request, WordsFault, request_of};
+pub use request::{Form, Kind, Made, Report, Request, WordsFault, request_of};
 pub use running::run;
 pub use words::Words;
 pub use writing::{RunFault, report};

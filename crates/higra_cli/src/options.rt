@@ -1,11 +1,11 @@
 // The values of the options, each in its row. None says that the text is no value of the option.
-ghost use Rattle.std.specs.Prelude.{◌≡◌, ◌≤◌, IfSome, option_map};
+ghost use Rattle.std.specs.Prelude.{◌≡◌, ◌≤◌, IfSome, None, option_map};
 ghost use Rattle.std.specs.Char.{is_ascii_digit};
 ghost use Rattle.std.specs.List.{list_all};
-ghost use Rattle.higra_cli.specs.Request.{form_by, form_named, is_number, made_by, number, number_in, seed_by, tile_by, workers_by};
-ghost use Rattle.higra_cli.specs.Running.{CanMake};
+ghost use Rattle.higra_cli.specs.Request.{can_be_drawn, form_by, form_named, is_number, kind_by, kind_named, level_by, made_by, number, number_in, seed_by, tile_by, workers_by};
+ghost use Rattle.higra_cli.specs.Running.{CanMake, IsFormOf};
 
-use super::request::{Form, Made};
+use super::request::{Form, Kind, Made, Report};
 
 // The most digits of a number.
 const MOST_DIGITS: usize = 20;
@@ -34,14 +34,65 @@ pub(crate) fn workers_by(text: Option<&str>) -> Option<u32>
     }
 }
 
+/// `--kind` of a cut: the tree that is cut. None is the graph's own.
+pub(crate) fn kind_by(text: Option<&str>) -> Option<Option<Kind>>
+    ensures kind { result ≡ kind_by (option_map (λ s. s.now) text.entry) }
+    ensures own { IfSome result (λ kind. kind ≡ None) }
+{
+    match text {
+        None => Some(None),
+        Some(text) => kind_named(text),
+    }
+}
+
+// The tree with this name. So far it is the graph's own.
+fn kind_named(text: &str) -> Option<Option<Kind>>
+    ensures kind { result ≡ kind_named text.now }
+    ensures own { IfSome result (λ kind. kind ≡ None) }
+{
+    if text == "altitude" { Some(None) } else { None }
+}
+
+/// `--level`: the greatest altitude below which a tree isn't cut.
+pub(crate) fn level_by(text: Option<&str>) -> Option<u64>
+    ensures { result ≡ level_by (option_map (λ s. s.now) text.entry) }
+{
+    match text {
+        None => Some(0),
+        Some(text) => number(text),
+    }
+}
+
 /// `--form`: the form of the report.
-pub(crate) fn form_by(text: Option<&str>) -> Option<Form>
-    ensures { result ≡ form_by (option_map (λ s. s.now) text.entry) }
+pub(crate) fn form_by(report: Report, text: Option<&str>) -> Option<Form>
+    ensures form { result ≡ form_by report (option_map (λ s. s.now) text.entry) }
+    ensures drawn { IfSome result (IsFormOf report) }
 {
     match text {
         None => Some(Form::Text),
-        Some(text) => form_named(text),
+        Some(text) => form_named(report, text),
     }
+}
+
+// The form with this name, where the report can have it.
+fn form_named(report: Report, text: &str) -> Option<Form>
+    ensures form { result ≡ form_named report text.now }
+    ensures drawn { IfSome result (IsFormOf report) }
+{
+    if text == "text" {
+        Some(Form::Text)
+    } else if text == "pgm" && can_be_drawn(report) {
+        Some(Form::Pgm)
+    } else {
+        None
+    }
+}
+
+// Whether the report can be drawn as a picture.
+fn can_be_drawn(report: Report) -> bool
+    ensures { result ≡ can_be_drawn report }
+{
+    matches!(report, Report::Cut(_, _))
 }
 
 /// `--make` and `--seed`: the picture that is made, if one is. A seed needs a side.
@@ -66,17 +117,6 @@ fn seed_by(text: Option<&str>) -> Option<u32>
     match text {
         None => Some(1),
         Some(text) => number_in(text, 0, u32::MAX),
-    }
-}
-
-// The form with this name. `pgm` is one where a report takes it, and none does so far.
-fn form_named(text: &str) -> Option<Form>
-    ensures { result ≡ form_named text.now }
-{
-    if text == "text" {
-        Some(Form::Text)
-    } else {
-        None
     }
 }
 

@@ -3,14 +3,25 @@ ghost use Rattle.std.specs.Prelude.{◌≡◌, IfOk, IfSome};
 ghost use Rattle.clap.specs.Words.{found_of, rows_of};
 ghost use Rattle.higra_cli.specs.Command.{request_in, requested};
 ghost use Rattle.higra_cli.specs.Given.{texts_of};
-ghost use Rattle.higra_cli.specs.Request.{alone, report_by, request_by};
-ghost use Rattle.higra_cli.specs.Running.{CanMake, CanReport};
+ghost use Rattle.higra_cli.specs.Request.{alone, cut_by, report_by, request_by};
+ghost use Rattle.higra_cli.specs.Running.{CanMake, CanReport, CutsOwn};
 
 use super::command::{Given, matches_on, texts_in};
-use super::options::{form_by, made_by, tile_by, workers_by};
+use super::options::{form_by, kind_by, level_by, made_by, tile_by, workers_by};
 use super::words::Words;
 use clap::ArgMatches;
 use std::alloc::{AllocError, Global};
+
+/// By what a hierarchical watershed orders its minima: an attribute of a node's vertices.
+#[derive(Clone, Copy, Debug, PartialEq, Eq)]
+pub enum Kind {
+    /// The sum of the areas.
+    Area,
+    /// The sum of the heights below the parent's altitude, each times its area.
+    Volume,
+    /// The greatest height below the parent's altitude.
+    Dynamics,
+}
 
 /// What is written about the input.
 #[derive(Clone, Copy, Debug, PartialEq, Eq)]
@@ -21,6 +32,8 @@ pub enum Report {
     Zones,
     /// The saliency of each edge.
     Saliency,
+    /// The regions of a tree at a level: of the graph's own tree, or of its hierarchical watershed by a kind.
+    Cut(Option<Kind>, u64),
 }
 
 /// The form of a report.
@@ -106,30 +119,43 @@ fn request_by(given: &Given) -> Option<Request>
     ensures can_report { IfSome result CanReport }
     ensures can_make { IfSome result (λ request. IfSome request.made CanMake) }
 {
+    let report = report_by(given)?;
     Some(Request {
-        report: report_by(given)?,
+        report,
         tile: tile_by(given.tile)?,
         workers: workers_by(given.workers)?,
-        form: form_by(given.form)?,
+        form: form_by(report, given.form)?,
         made: made_by(given.make, given.seed)?,
     })
 }
 
 // REPORT, with the options that this report takes.
 fn report_by(given: &Given) -> Option<Report>
-    ensures { result ≡ report_by (texts_of given.now) }
+    ensures report { result ≡ report_by (texts_of given.now) }
+    ensures own { IfSome result CutsOwn }
 {
     match given.report {
         "tree" => alone(given, Report::Tree),
         "zones" => alone(given, Report::Zones),
         "saliency" => alone(given, Report::Saliency),
+        "cut" => cut_by(given),
         _ => None,
     }
 }
 
+// A cut, by its `--kind` and its `--level`.
+fn cut_by(given: &Given) -> Option<Report>
+    ensures cut { result ≡ cut_by (texts_of given.now) }
+    ensures own { IfSome result CutsOwn }
+{
+    Some(Report::Cut(kind_by(given.kind)?, level_by(given.level)?))
+}
+
 // A report that takes no `--kind` and no `--level`.
 fn alone(given: &Given, report: Report) -> Option<Report>
-    ensures { result ≡ alone (texts_of given.now) report }
+    requires { CutsOwn report }
+    ensures alone { result ≡ alone (texts_of given.now) report }
+    ensures own { IfSome result CutsOwn }
 {
     if given.kind.is_some() || given.level.is_some() {
         None

@@ -125,11 +125,7 @@ fn write_report<K: Sink, G: Gate>(
 }
 
 // The input of a request: the picture that it has made, or what the source gives.
-fn input_for<S: Source>(
-    alloc: Global,
-    made: Option<Made>,
-    source: &mut S,
-) -> Result<Input, Status>
+fn input_for<S: Source>(alloc: Global, made: Option<Made>, source: &mut S) -> Result<Input, Status>
     requires { IfSome made CanMake }
     ensures ends { EndsGetting made (told (S.left source.old) (S.faults source.old)) (told (S.left source.new) (S.faults source.new)) result }
     ensures most { GaveAtMost 134217729 (S.left source.old) (S.left source.new) }

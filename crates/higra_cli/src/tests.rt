@@ -61,7 +61,24 @@ fn runs_on(
 #[test]
 fn reports(rt: HostRuntime) -> Result<(), Fail> {
     let triangle = "graph 3 3\n0 1 1\n1 2 1\n0 2 1\n";
-    let rows: [(&[&str], &str, &str); 13] = [
+    let path = "graph 4 3\n0 1 1\n1 2 5\n2 3 2\n";
+    let rows: [(&[&str], &str, &str); 17] = [
+        (
+            &["cut", "--level", "1"],
+            path,
+            "labels 4 3\n0 1\n1 1\n2 2\n3 3\n",
+        ),
+        (
+            &["cut", "--level", "4", "--kind", "altitude"],
+            "graph 3 1\n0 1 4\n",
+            "labels 3 2\n0 1\n1 1\n2 2\n",
+        ),
+        (
+            &["cut", "--level", "1", "--form", "pgm"],
+            "P5\n2 2\n9\n\0\x03\x03\t",
+            "P5\n2 2\n4\n\x01\x02\x03\x04",
+        ),
+        (&["cut", "--form=text"], "graph 1 0\n", "labels 1 1\n0 1\n"),
         (
             &["tree"],
             "graph 3 2\n0 1 5\n1 2 3\n",
@@ -74,7 +91,11 @@ fn reports(rt: HostRuntime) -> Result<(), Fail> {
             triangle,
             "tree 5 3\n0 3 0\n1 3 0\n2 4 0\n3 4 1\n4 4 1\n",
         ),
-        (&["zones"], triangle, "tree 4 3\n0 3 0\n1 3 0\n2 3 0\n3 3 1\n"),
+        (
+            &["zones"],
+            triangle,
+            "tree 4 3\n0 3 0\n1 3 0\n2 3 0\n3 3 1\n",
+        ),
         (&["saliency"], triangle, "saliency 3\n0 1\n1 1\n2 1\n"),
         (
             &["saliency"],
@@ -168,7 +189,9 @@ fn faults_of_the_input(rt: HostRuntime) -> Result<(), Fail> {
     for (input, line) in rows {
         runs_on(&rt, rt.alloc(), &["tree"], input, (3, "", line))?;
     }
-    Ok(())
+    let drawn = ["cut", "--level", "1", "--form", "pgm"];
+    let line = "higra: input 11 NotAPicture at 0 value 0\n";
+    runs_on(&rt, rt.alloc(), &drawn, "graph 1 0\n", (3, "", line))
 }
 
 // Runs words that give no request, and sees that the source is untouched.

@@ -1,24 +1,28 @@
 // Making a report.
 ghost use Rattle.std.specs.Prelude.{◌≡◌, ◌≤◌, length, All, IfOk};
 ghost use Rattle.std.specs.List.Sorted.{IsNonDecreasingBy};
-ghost use Rattle.hg_base.specs.Levels.{AltitudesRise};
+ghost use Rattle.hg_base.specs.Labels.{labelling};
+ghost use Rattle.hg_base.specs.Levels.{AltitudesRise, shares};
+ghost use Rattle.label_writer.specs.Report.{labels_report};
 ghost use Rattle.hg_base.specs.Zones.{zones_of};
 ghost use Rattle.edge_order.specs.Order.{order_of};
 ghost use Rattle.partition_tree.specs.Report.{tree_report};
 ghost use Rattle.partition_tree.specs.Ranked.{JoinsTwo, IsRankedList};
 ghost use Rattle.higra_cli.specs.Inputs.{graph_of};
 ghost use Rattle.higra_cli.specs.Ordered.{altitude, tree_edges, IsTreeOf};
-ghost use Rattle.higra_cli.specs.Reports.{IsReport, text_of};
-ghost use Rattle.higra_cli.specs.Running.{CanReport, IsHierarchy};
+ghost use Rattle.higra_cli.specs.Reports.{IsReport, IsReportIn, text_of};
+ghost use Rattle.higra_cli.specs.Running.{CanReport, CutsOwn, IsHierarchy};
 
+use super::drawing::picture_about;
 use super::input::Input;
-use super::request::{Report, Request};
+use super::request::{Form, Report, Request};
 use edge_order::Order;
 use hg_base::{Gate, Graph, InputFault, OutOfMemory, RankedEdge};
+use label_writer::write_labels;
 use partition_tree::{Ranked, Tree, write_tree};
 use pgm_reader::graph_of;
 use quasi_flat_zones::zones;
-use saliency::{saliency, write_saliency};
+use saliency::{cut, saliency, write_saliency};
 use std::alloc::{AllocError, Global};
 use std::thread::Threads;
 
@@ -55,7 +59,8 @@ impl From<AllocError> for RunFault {
 
 /// The bytes of the report that is asked for, about this input.
 ///
-/// The only error is that memory ran out.
+/// A picture is drawn of a picture alone, and of at most 65,535 labels; else the input has the fault NotAPicture or
+/// TooManyLabels. Memory may run out.
 #[tactic(auto, unfolding(crate::specs::Reports::refusal, crate::specs::Reports::report_of))]
 pub fn report<G: Gate>(
     rt: &(impl Threads + Sync),
@@ -68,7 +73,10 @@ pub fn report<G: Gate>(
     ensures report { IsReport request.now input.now result }
     ensures hierarchy { IfOk result (λ _. IsHierarchy (graph_of input.now)) }
 {
-    Ok(text_about(rt, alloc, request.report, input)?)
+    match request.form {
+        Form::Text => text_about(rt, alloc, request.report, input),
+        Form::Pgm => picture_about(rt, alloc, request.report, input),
+    }
 }
 
 // The text of a report about an input.
@@ -77,15 +85,16 @@ fn text_about(
     alloc: Global,
     report: Report,
     input: &Input,
-) -> Result<Vec<u8>, OutOfMemory>
-    ensures text { IfOk result (λ text. text.items ≡ text_of report (graph_of input.now)) }
+) -> Result<Vec<u8>, RunFault>
+    requires { CutsOwn report }
+    ensures text { IsReportIn Form.Text report input.now result }
     ensures hierarchy { IfOk result (λ _. IsHierarchy (graph_of input.now)) }
 {
     match input {
-        Input::Edges(graph) => text(rt, alloc, report, graph),
+        Input::Edges(graph) => Ok(text(rt, alloc, report, graph)?),
         Input::Picture(picture) => {
             let graph = graph_of(rt, alloc, picture)?;
-            text(rt, alloc, report, &graph)
+            Ok(text(rt, alloc, report, &graph)?)
         }
     }
 }
@@ -98,6 +107,7 @@ fn text(
     report: Report,
     graph: &Graph,
 ) -> Result<Vec<u8>, OutOfMemory>
+    requires { CutsOwn report }
     ensures text { IfOk result (λ text. text.items ≡ text_of report graph.now) }
     ensures hierarchy { IfOk result (λ _. IsHierarchy graph.now) }
 {
@@ -106,6 +116,7 @@ fn text(
         Report::Tree => write_tree(alloc, &tree),
         Report::Zones => zones_text(alloc, &tree),
         Report::Saliency => write_saliency(alloc, &saliency(alloc, graph, &tree)?),
+        Report::Cut(_, level) => regions_text(alloc, &tree, level),
     }
 }
 
@@ -117,8 +128,16 @@ fn zones_text(alloc: Global, tree: &Tree) -> Result<Vec<u8>, OutOfMemory>
     write_tree(alloc, &zones(alloc, tree)?)
 }
 
-// The tree of a graph.
-fn tree_of(
+// The text of the regions of a tree at a level.
+fn regions_text(alloc: Global, tree: &Tree, level: u64) -> Result<Vec<u8>, OutOfMemory>
+    requires { AltitudesRise tree.now }
+    ensures { IfOk result (λ text. text.items ≡ labels_report (labelling (shares tree.now level) tree.now.leaves)) }
+{
+    write_labels(alloc, &cut(alloc, tree, level)?)
+}
+
+/// The tree of a graph.
+pub(crate) fn tree_of(
     rt: &(impl Threads + Sync),
     alloc: Global,
     graph: &Graph,

@@ -5,7 +5,7 @@ use Rattle.node_region.specs.Pool.{CellPool, IsCovered}
 use Rattle.border_climb.specs.Stands.{PartState}
 use Rattle.border_climb.specs.Splicing.{KeepsRange}
 use Rattle.border_climb.specs.Parts.{listed, Crosses}
-use Rattle.border_climb.proofs.Checked.{apart}
+use Rattle.border_climb.proofs.Checked.{apart-tested}
 use Rattle.border_climb.proofs.Parts.{covered-on}
 use Rattle.border_climb.proofs.tests.tiles.Goals as goal
 
@@ -34,7 +34,7 @@ join-whole-requires-clause-lists g c =
           right_stands = c.build_tile-right.ensures.stands (listed (edge 3 2 3) ∷ []) refl;
           crosses = both-cross c.build_tile-left.result.region c.build_tile-right.result.region (edge 0 1 2) (edge 1 0 3)
               (left 1 (omega arith, omega arith)) (right 2 (omega arith, omega arith)) (left 0 (omega arith, omega arith)) (right 3 (omega arith, omega arith));
-          apart = apart 0 4 (edge 2 0 1 ∷ edge 3 2 3 ∷ edge 0 1 2 ∷ edge 1 0 3 ∷ []) refl;
+          apart = apart-tested (edge 2 0 1 ∷ edge 3 2 3 ∷ edge 0 1 2 ∷ edge 1 0 3 ∷ []) refl;
         },
       ),
     )

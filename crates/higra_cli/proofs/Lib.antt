@@ -3,6 +3,7 @@ pub mod DrawingLemmas
 pub mod LineLemmas
 pub mod NumberLemmas
 pub mod OrderedLemmas
+pub mod PlanningLemmas
 pub mod ReadingLemmas
 pub mod RunningLemmas
 pub mod SpelledLemmas

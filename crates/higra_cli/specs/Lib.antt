@@ -4,6 +4,7 @@ pub mod Feeding
 pub mod Given
 pub mod Inputs
 pub mod Ordered
+pub mod Planning
 pub mod Reading
 pub mod Reports
 pub mod Request

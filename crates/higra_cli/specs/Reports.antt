@@ -8,10 +8,11 @@ use Rattle.hg_base.specs.Tree.{graph_tree}
 use Rattle.hg_base.specs.Zones.{zones_of}
 use Rattle.hg_base.specs.Saliencies.{saliencies}
 use Rattle.hg_base.specs.declared.fault.InputFault.{InputFault}
-use Rattle.hg_base.specs.declared.fault.FaultKind.TheVariants.{NotAPicture, TooManyLabels}
+use Rattle.hg_base.specs.declared.fault.FaultKind.TheVariants.{NotAPicture, TooManyLabels, TooManyTiles}
 use Rattle.label_writer.specs.Report.{labels_picture, labels_report}
 use Rattle.partition_tree.specs.Report.{tree_report}
 use Rattle.saliency.specs.Report.{saliency_report}
+use Rattle.tile_plan.specs.Plan.{TilePlan, blocks, squares, tile_count}
 use Rattle.higra_cli.specs.Inputs.{graph_of}
 use Rattle.higra_cli.specs.declared.request.Form.{Form}
 use Rattle.higra_cli.specs.declared.request.Form.TheVariants as forms
@@ -56,29 +57,55 @@ report_in forms.Pgm report input = picture_of report input
 unfoldable pub report_of : Request → Input → List ℕ
 report_of request input = report_in request.form request.report input
 
+-- the plan of an input in tiles of this size: blocks of an edge list's vertices, or squares of a picture's pixels
+abbrev pub plan_of : ℕ → Input → TilePlan
+plan_of tile (Edges graph) = blocks graph tile
+plan_of tile (Picture raster) = squares (graph_of (Picture raster)) raster.width raster.height tile
+
+-- how many tiles the plan of a request's input has
+abbrev pub tiles_of : Request → Input → ℕ
+tiles_of request input = tile_count (plan_of request.tile input)
+
+-- tiles that are too many for a plan, if they are
+unfoldable pub tile_fault : ℕ → Option InputFault
+tile_fault count = if nat_lt 65536 count then Some (record { kind = TooManyTiles; at = 0; value = count }) else None
+
 -- labels that are too many for a picture, if they are
 unfoldable pub label_fault : ℕ → Option InputFault
 label_fault count = if nat_lt 65535 count then Some (record { kind = TooManyLabels; at = 0; value = count }) else None
 
--- why an input can't be drawn, if it can't: it is no picture, or it has too many labels
-unfoldable pub drawing_fault : Report → Input → Option InputFault
-drawing_fault report (Edges graph) = Some (record { kind = NotAPicture; at = 0; value = 0 })
-drawing_fault report (Picture raster) = label_fault (labels_of report (graph_of (Picture raster))).count
+-- a picture is asked for of an input that is none
+abbrev pub picture_fault : Form → Input → Option InputFault
+picture_fault forms.Text input = None
+picture_fault forms.Pgm (Edges graph) = Some (record { kind = NotAPicture; at = 0; value = 0 })
+picture_fault forms.Pgm (Picture raster) = None
 
--- why there is no report of this form, if there is none
-abbrev pub refusal_in : Form → Report → Input → Option InputFault
-refusal_in forms.Text report input = None
-refusal_in forms.Pgm report input = drawing_fault report input
+-- a picture is asked for of too many labels
+abbrev pub drawing_fault : Form → Report → Input → Option InputFault
+drawing_fault forms.Text report input = None
+drawing_fault forms.Pgm report input = label_fault (labels_of report (graph_of input)).count
+
+-- the first fault, or else the second
+infixr 10 ◌before◌
+abbrev pub ◌before◌ : Option InputFault → Option InputFault → Option InputFault
+None before later = later
+(Some fault) before later = Some fault
+
+-- why there is no report of this form in tiles of this size, if there is none: it is no picture, or it has too many
+-- tiles, or it has too many labels
+abbrev pub refusal_in : Form → ℕ → Report → Input → Option InputFault
+refusal_in form tile report input = picture_fault form input before (tile_fault (tile_count (plan_of tile input)) before drawing_fault form report input)
 
 -- why the report can't be made of the input, if it can't
 unfoldable pub refusal : Request → Input → Option InputFault
-refusal request input = refusal_in request.form request.report input
+refusal request input = picture_fault request.form input before (tile_fault (tiles_of request input) before drawing_fault request.form request.report input)
 
--- what making a report of this form answers: exactly its bytes, or why there is none, or that memory ran out
-abbrev pub IsReportIn : Form → Report → Input → Result (Vec ℕ Global) RunFault → Type 0
-IsReportIn form report input (Ok bytes) = (refusal_in form report input ≡ None) × (bytes.items ≡ report_in form report input)
-IsReportIn form report input (Err (faults.Input fault)) = refusal_in form report input ≡ Some fault
-IsReportIn form report input (Err faults.OutOfMemory) = Unit {0}
+-- what making a report of this form in tiles of this size answers: exactly its bytes, or why there is none, or that
+-- memory ran out
+abbrev pub IsReportIn : Form → ℕ → Report → Input → Result (Vec ℕ Global) RunFault → Type 0
+IsReportIn form tile report input (Ok bytes) = (refusal_in form tile report input ≡ None) × (bytes.items ≡ report_in form report input)
+IsReportIn form tile report input (Err (faults.Input fault)) = refusal_in form tile report input ≡ Some fault
+IsReportIn form tile report input (Err faults.OutOfMemory) = Unit {0}
 
 -- what making a report answers: exactly its bytes, or why it can't be made of the input, or that memory ran out
 abbrev pub IsReport : Request → Input → Result (Vec ℕ Global) RunFault → Type 0

@@ -9,6 +9,7 @@ mod input;
 pub mod laws;
 mod line;
 mod options;
+mod planning;
 mod reading;
 mod request;
 mod running;

@@ -15,6 +15,7 @@ ghost use Rattle.higra_cli.specs.Running.{CanReport, CutsOwn, IsHierarchy};
 
 use super::drawing::picture_about;
 use super::input::Input;
+use super::planning::{plan_edges, plan_pixels};
 use super::request::{Form, Report, Request};
 use edge_order::Order;
 use hg_base::{Gate, Graph, InputFault, OutOfMemory, RankedEdge};
@@ -59,8 +60,8 @@ impl From<AllocError> for RunFault {
 
 /// The bytes of the report that is asked for, about this input.
 ///
-/// A picture is drawn of a picture alone, and of at most 65,535 labels; else the input has the fault NotAPicture or
-/// TooManyLabels. Memory may run out.
+/// A picture is drawn of a picture alone, and of at most 65,535 labels; and a plan has at most 65,536 tiles. Else the
+/// input has the fault NotAPicture, TooManyTiles or TooManyLabels, the first of these that it has. Memory may run out.
 #[tactic(auto, unfolding(crate::specs::Reports::refusal, crate::specs::Reports::report_of))]
 pub fn report<G: Gate>(
     rt: &(impl Threads + Sync),
@@ -74,44 +75,47 @@ pub fn report<G: Gate>(
     ensures hierarchy { IfOk result (λ _. IsHierarchy (graph_of input.now)) }
 {
     match request.form {
-        Form::Text => text_about(rt, alloc, request.report, input),
-        Form::Pgm => picture_about(rt, alloc, request.report, input),
+        Form::Text => text_about(rt, alloc, request.report, request.tile, input),
+        Form::Pgm => picture_about(rt, alloc, request.report, request.tile, input),
     }
 }
 
 // The text of a report about an input.
+#[tactic(auto, using(crate::proofs::PlanningLemmas::before_none, crate::proofs::PlanningLemmas::before_some))]
 fn text_about(
     rt: &(impl Threads + Sync),
     alloc: Global,
     report: Report,
+    tile: u32,
     input: &Input,
 ) -> Result<Vec<u8>, RunFault>
-    requires { CutsOwn report }
-    ensures text { IsReportIn Form.Text report input.now result }
+    requires own { CutsOwn report }
+    requires tile { 1 ≤ tile }
+    ensures text { IsReportIn Form.Text tile report input.now result }
     ensures hierarchy { IfOk result (λ _. IsHierarchy (graph_of input.now)) }
 {
     match input {
-        Input::Edges(graph) => Ok(text(rt, alloc, report, graph)?),
+        Input::Edges(graph) => {
+            let planned = plan_edges(rt, alloc, graph, tile)?;
+            Ok(text(alloc, report, graph, &planned.order)?)
+        }
         Input::Picture(picture) => {
             let graph = graph_of(rt, alloc, picture)?;
-            Ok(text(rt, alloc, report, &graph)?)
+            let planned = plan_pixels(rt, alloc, picture, &graph, tile)?;
+            Ok(text(alloc, report, &graph, &planned.order)?)
         }
     }
 }
 
 // The text of a report about a graph.
 #[tactic(auto, using(crate::proofs::OrderedLemmas::is_hierarchy, crate::proofs::OrderedLemmas::shared_roots), unfolding(crate::specs::Reports::text_of))]
-fn text(
-    rt: &(impl Threads + Sync),
-    alloc: Global,
-    report: Report,
-    graph: &Graph,
-) -> Result<Vec<u8>, OutOfMemory>
-    requires { CutsOwn report }
+fn text(alloc: Global, report: Report, graph: &Graph, order: &Order) -> Result<Vec<u8>, OutOfMemory>
+    requires own { CutsOwn report }
+    requires order { order.now ≡ order_of graph.now }
     ensures text { IfOk result (λ text. text.items ≡ text_of report graph.now) }
     ensures hierarchy { IfOk result (λ _. IsHierarchy graph.now) }
 {
-    let tree = tree_of(rt, alloc, graph)?;
+    let tree = tree_of(alloc, graph, order)?;
     match report {
         Report::Tree => write_tree(alloc, &tree),
         Report::Zones => zones_text(alloc, &tree),
@@ -136,16 +140,12 @@ fn regions_text(alloc: Global, tree: &Tree, level: u64) -> Result<Vec<u8>, OutOf
     write_labels(alloc, &cut(alloc, tree, level)?)
 }
 
-/// The tree of a graph.
-pub(crate) fn tree_of(
-    rt: &(impl Threads + Sync),
-    alloc: Global,
-    graph: &Graph,
-) -> Result<Tree, OutOfMemory>
+/// The tree of a graph. The order is the graph's.
+pub(crate) fn tree_of(alloc: Global, graph: &Graph, order: &Order) -> Result<Tree, OutOfMemory>
+    requires { order.now ≡ order_of graph.now }
     ensures { IfOk result (IsTreeOf graph.now) }
 {
-    let order = Order::of(rt, alloc, graph)?;
-    let edges = ranked_list(alloc, graph, &order)?;
+    let edges = ranked_list(alloc, graph, order)?;
     let tree = Tree::of_list(alloc, graph.n(), &edges)?;
     // That the tree is a forest.
     let _ = tree.nodes();

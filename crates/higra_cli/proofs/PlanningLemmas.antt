@@ -1,0 +1,54 @@
+-- Tiles that are too many, and faults that come before others.
+use Rattle.std.proofs.Common.{◌≡◌, ℕ, ◌<◌, ◌≤◌, Option, Some, None, Result, Ok, Err, refl, sym, ap, ◌∙◌, subst}
+use Rattle.std.proofs.lemmas.Bool.{lt-ltb, le-ltb}
+use Rattle.edge_order.specs.Order.{order_of}
+use Rattle.hg_base.specs.Graph.{WeightedGraph}
+use Rattle.hg_base.specs.declared.fault.InputFault.{InputFault}
+use Rattle.hg_base.specs.declared.fault.FaultKind.TheVariants.{TooManyTiles}
+use Rattle.pgm_reader.specs.Raster.{Raster}
+use Rattle.tile_plan.specs.Plan.{IsAnswer, TilePlan, squares, tile_count}
+use Rattle.tile_plan.specs.declared.fault.PlanFault.{PlanFault}
+use Rattle.tile_plan.specs.declared.fault.PlanFault.TheVariants as plans
+use Rattle.higra_cli.specs.Inputs.{graph_of}
+use Rattle.higra_cli.specs.Planning.{IsPlanOf, IsPlanned, run_fault}
+use Rattle.higra_cli.specs.Reports.{◌before◌, plan_of, tile_fault}
+use Rattle.higra_cli.specs.declared.input.Input.{Input}
+use Rattle.higra_cli.specs.declared.input.Input.TheVariants.{Picture}
+use Rattle.higra_cli.specs.declared.planning.Planned.{Planned}
+use Rattle.higra_cli.specs.declared.writing.RunFault.{RunFault}
+
+-- up to 65,536 tiles are no fault
+few_tiles : (count : ℕ) → count ≤ 65536 → tile_fault count ≡ None
+unfolding tile_fault
+few_tiles count few = rw (le-ltb _ _ few) refl
+
+abbrev too_many : ℕ → InputFault
+too_many count = record { kind = TooManyTiles; at = 0; value = count }
+
+-- more are
+many_tiles : (count : ℕ) → 65536 < count → tile_fault count ≡ Some (too_many count)
+unfolding tile_fault
+many_tiles count many = rw (lt-ltb _ _ many) refl
+
+-- the squares that a picture's plan is made of
+pub squared : (g : WeightedGraph) (r : Raster) (w h tile : ℕ) → g ≡ graph_of (Picture r) → w ≡ r.width → h ≡ r.height → squares g w h tile ≡ plan_of tile (Picture r)
+squared g r w h tile are wide high =
+    ap (λ (x : WeightedGraph). squares x w h tile) are ∙ ap (λ (x : ℕ). squares (graph_of (Picture r)) x h tile) wide ∙ ap (λ (x : ℕ). squares (graph_of (Picture r)) r.width x tile) high
+
+-- an order and a plan that were made
+pub planned_is : (tile : ℕ) (input : Input) (planned : Planned) (made : TilePlan) → planned.order ≡ order_of (graph_of input) → planned.plan ≡ made → IsAnswer (plan_of tile input) (Ok made) → IsPlanOf tile input planned
+planned_is tile input planned made order plan answer = record { order = order; plan = plan ∙ answer.0; few = few_tiles _ answer.1 }
+
+-- a plan that couldn't be made
+pub plan_refused : (tile : ℕ) (input : Input) (why : PlanFault) (fault : RunFault) → IsAnswer (plan_of tile input) (Err why) → fault ≡ run_fault why → IsPlanned tile input (Err fault)
+plan_refused tile input (plans.TooManyTiles count) fault answer is =
+    subst (λ (f : RunFault). IsPlanned tile input (Err f)) (sym is) (many_tiles _ answer.1 ∙ ap (λ (n : ℕ). Some (too_many n)) (sym answer.0))
+plan_refused tile input plans.OutOfMemory fault answer is = subst (λ (f : RunFault). IsPlanned tile input (Err f)) (sym is) tt
+
+-- where the first fault isn't there, the second is the one
+pub before_none : (a b c : Option InputFault) → a ≡ None → b ≡ c → (a before b) ≡ c
+before_none a b c none same = ap (λ (o : Option InputFault). o before b) none ∙ same
+
+-- the first fault is the one where it is there
+pub before_some : (a b : Option InputFault) (fault : InputFault) → a ≡ Some fault → (a before b) ≡ Some fault
+before_some a b fault some = ap (λ (o : Option InputFault). o before b) some

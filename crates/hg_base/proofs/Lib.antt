@@ -25,3 +25,4 @@ pub mod Ranks
 pub mod Ranked
 pub mod LawForms
 pub mod Lines
+pub mod CountMore

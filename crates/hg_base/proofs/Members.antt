@@ -4,6 +4,7 @@ use Rattle.std.specs.Prelude.{filter, nat_lt}
 use Rattle.std.proofs.lemmas.Bool.{cases_Bool, ltb-true, ltb-false, lt-ltb}
 use Rattle.hg_base.specs.Edges.{ListedEdge, EdgeList, IsIn, AreApart, placed_by_rank, in_order, below}
 pub use Rattle.hg_base.specs.Edges.{IsSameSet}
+pub use Rattle.hg_base.specs.Rising.{IsRising}
 
 -- what is in the list and passes the test is in what the filter keeps
 pub IsIn-filter : {X : Type 0} (p : X → Bool) (x : X) (xs : List X) → p x ≡ true → IsIn x xs → IsIn x (filter p xs)
@@ -50,11 +51,6 @@ IsIn-below e s k i h = IsIn-filter (λ f. nat_lt f.rank k) e s (lt-ltb e.rank k 
 pub IsIn-below_kept : (e : ListedEdge) (s : EdgeList) (k : ℕ) → IsIn e (below s k) → IsIn e s × (e.rank < k)
 IsIn-below_kept e s k i =
     let h = IsIn-kept (λ (f : ListedEdge). nat_lt f.rank k) e s i in (h.1, ltb-true e.rank k h.0)
-
--- each edge has a lower rank than all after it
-abbrev pub IsRising : EdgeList → Type 0
-IsRising [] = Unit {0}
-IsRising (e ∷ s) = ((f : ListedEdge) → IsIn f s → e.rank < f.rank) × IsRising s
 
 pub IsRising-filter : (p : ListedEdge → Bool) (s : EdgeList) → IsRising s → IsRising (filter p s)
 IsRising-filter p [] h = tt

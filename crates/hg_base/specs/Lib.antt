@@ -13,3 +13,4 @@ pub mod Outside
 pub mod Placed
 pub mod Labels
 pub mod LabelsFields
+pub mod Rising

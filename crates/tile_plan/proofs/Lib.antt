@@ -1,0 +1,10 @@
+pub mod Cuts
+pub mod Descents
+pub mod Counting
+pub mod Growing
+pub mod Laying
+pub mod Scatter
+pub mod Parts
+pub mod Mothers
+pub mod LotNumbers
+pub mod Agreeing

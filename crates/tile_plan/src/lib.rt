@@ -1,0 +1,14 @@
+//! The tile plan of a graph: tiles, merges, places and lots.
+#![tactic(auto)]
+
+mod fault;
+mod frame;
+pub mod laws;
+mod placing;
+mod plan;
+mod site;
+mod tables;
+
+pub use fault::PlanFault;
+pub use plan::Plan;
+pub use site::Side;

@@ -1,0 +1,95 @@
+ghost use Rattle.std.specs.Prelude.{◌≤◌};
+
+use super::Plan;
+use crate::fault::PlanFault;
+use crate::site::Side;
+use edge_order::Order;
+use hg_base::{Edge, Graph, PlacedEdge, Room};
+use std::alloc::Global;
+use std::process::Abort;
+use std::test::Fail;
+use std::thread::Threads;
+
+// The graph of a picture of equal samples, 4 pixels wide and 2 high: each pixel's edge to the right, then down.
+fn picture(rt: &impl Abort, alloc: Global) -> Result<Graph, Fail> {
+    let mut edges = Vec::new(alloc);
+    let ends = [
+        (0, 1),
+        (0, 4),
+        (1, 2),
+        (1, 5),
+        (2, 3),
+        (2, 6),
+        (3, 7),
+        (4, 5),
+        (5, 6),
+        (6, 7),
+    ];
+    for (u, v) in ends {
+        assert!(rt; u < 8 && v < 8 && u != v);
+        edges.push(Edge { u, v, w: 0 })?;
+    }
+    Ok(Graph::new(8, edges))
+}
+
+#[test]
+fn two_squares(rt: HostRuntime) -> Result<(), Fail> {
+    let graph = picture(&rt, rt.alloc())?;
+    let order = Order::of(&rt, rt.alloc(), &graph).expect(&rt, "ample memory");
+    assert!(rt; graph.n() == 8);
+    let plan = Plan::squares(rt.alloc(), &graph, &order, 4, 2, 2).expect(&rt, "ample memory");
+    assert_eq!(rt; (plan.tiles(), plan.n(), plan.root()), (2, 8, 2));
+    for (place, vertex) in [0, 1, 4, 5, 2, 3, 6, 7].into_iter().enumerate() {
+        assert_eq!(rt; plan.vertex_at(place as u32), vertex);
+        assert_eq!(rt; plan.place_of(vertex), place as u32);
+    }
+    assert_eq!(rt; plan.children(2), (0, 1));
+    assert_eq!(rt; plan.parent(0), Some((2, Side::Left)));
+    assert_eq!(rt; plan.parent(1), Some((2, Side::Right)));
+    assert_eq!(rt; plan.parent(2), None);
+    assert_eq!(rt; (plan.range(0), plan.range(1), plan.range(2)), ((0, 4), (4, 4), (0, 8)));
+    let room = Room { places: 8, chunks: 2 };
+    assert_eq!(rt; plan.room_of(0), room);
+    let room = Room { places: 4, chunks: 1 };
+    assert_eq!(rt; plan.room_of(1), room);
+    let lot = [
+        PlacedEdge { rank: 2, a: 1, b: 4 },
+        PlacedEdge { rank: 8, a: 3, b: 6 },
+    ];
+    assert_eq!(rt; plan.lot(2), lot.as_slice());
+    assert_eq!(rt; (plan.lot(0).len(), plan.lot(1).len()), (4, 4));
+    Ok(())
+}
+
+// How many tiles the plan of a graph without edges has, as a picture or in blocks of one vertex.
+fn tiles(
+    rt: &(impl Abort + Threads + Sync),
+    alloc: Global,
+    n: u32,
+    shape: Option<(u32, u32, u32)>,
+) -> Result<u32, PlanFault>
+    requires some { 1 ≤ n }
+    requires few { n ≤ 1048576 }
+{
+    let graph = Graph::new(n, Vec::new(alloc));
+    let order = Order::of(rt, alloc, &graph).map_err(|_| PlanFault::OutOfMemory)?;
+    let Some((width, height, tile)) = shape else {
+        return Ok(Plan::blocks(alloc, &graph, &order, 1)?.tiles());
+    };
+    assert!(rt; u64::from(width) * u64::from(height) == u64::from(n) && 1 <= tile);
+    Ok(Plan::squares(alloc, &graph, &order, width, height, tile)?.tiles())
+}
+
+#[test]
+fn at_most_65536_tiles(rt: HostRuntime) {
+    let rows = [
+        (1, None, Ok(1)),
+        (65536, None, Ok(65536)),
+        (65537, None, Err(PlanFault::TooManyTiles(65537))),
+        (262144, Some((512, 512, 1)), Err(PlanFault::TooManyTiles(262144))),
+        (262144, Some((512, 512, 64)), Ok(64)),
+    ];
+    for (n, shape, answer) in rows {
+        assert_eq!(rt; tiles(&rt, rt.alloc(), n, shape), answer);
+    }
+}

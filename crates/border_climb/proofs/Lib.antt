@@ -1,2 +1,8 @@
-pub mod SlotLemmas
-pub mod ViewLemmas
+pub mod Linked
+pub mod Merging
+pub mod Closing
+pub mod Opening
+pub mod Pools
+pub mod Ways
+pub mod Seams
+pub mod Writes

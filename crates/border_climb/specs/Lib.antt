@@ -1,5 +1,5 @@
-pub mod Slots
-pub mod Given
-pub mod Chains
-pub mod PartFields
 pub mod Stands
+pub mod Linked
+pub mod Notes
+pub mod Splicing
+pub mod Climbs

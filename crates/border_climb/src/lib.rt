@@ -1,9 +1,8 @@
-//! The chains of a range of places: edges are given in any order, and each is spliced in by climbing.
+//! Parts: the chains of a range of places. Edges are given in any order, and each is spliced in by climbing.
 #![tactic(auto)]
 
+mod climbing;
 mod given;
-mod links;
-mod part;
+mod splicing;
 
 pub use given::Given;
-pub use part::Part;

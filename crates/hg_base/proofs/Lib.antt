@@ -26,3 +26,4 @@ pub mod Ranked
 pub mod LawForms
 pub mod Lines
 pub mod CountMore
+pub mod Ends

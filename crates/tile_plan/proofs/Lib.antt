@@ -8,3 +8,7 @@ pub mod Parts
 pub mod Mothers
 pub mod LotNumbers
 pub mod Agreeing
+pub mod Ranges
+pub mod Reading
+pub mod Edges
+pub mod RootEdges

@@ -1,4 +1,4 @@
-use Rattle.tile_plan.proofs.Ranges.{is_somewhere, is_tile, place-once, place-below}
+use Rattle.tile_plan.proofs.Ranges.{is_somewhere, is_tile, places-once, places-below}
 use Rattle.tile_plan.proofs.laws.places_of_a_plan.Goals as goal
 
 pub returns-clause-parts : goal.returns-clause-parts

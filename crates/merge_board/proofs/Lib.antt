@@ -1,0 +1,5 @@
+pub mod Doors
+pub mod Changes
+pub mod First
+pub mod Second
+pub mod Draws

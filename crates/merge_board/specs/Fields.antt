@@ -1,0 +1,14 @@
+-- The rule over a board's key.
+use Rattle.std.specs.Prelude.{ℕ, Option}
+use Rattle.atomic_table.specs.Table.{State}
+use Rattle.border_climb.specs.Stands.{PartState}
+use Rattle.merge_board.specs.Board.{IsBoard}
+use Rattle.merge_board.specs.Seats.{first_view}
+use Rattle.merge_board.specs.declared.view.View.{View}
+use Rattle.merge_board.specs.declared.view.Key.{Key}
+
+abbrev pub rule_of : Key → State (Option PartState) View → Type 0
+rule_of key s = IsBoard key.plan.value key.workers s
+
+abbrev pub first_of : Key → View
+first_of key = first_view key.plan.value key.workers

@@ -1,0 +1,4 @@
+pub mod Fits
+pub mod Board
+pub mod Seats
+pub mod Fields

@@ -1,0 +1,40 @@
+-- Seats: what contracts see of one, and how each step changes its view.
+use Rattle.std.specs.Prelude.{◌≡◌, ◌≢◌, ℕ, ◌+◌, ◌-◌, ◌<◌, ◌≤◌, List, [], ◌∷◌, max, Option, Some, None, true, false}
+use Rattle.tile_plan.specs.Plan.{TilePlan, tile_count}
+use Rattle.merge_board.specs.declared.view.View.{View}
+
+-- the plan without a vertex
+abbrev pub no_plan : TilePlan
+no_plan = record { frame = record { width = 0; height = 0; side = 0 }; edges = [] }
+
+-- the first seat's view: it stands for all workers
+abbrev pub first_view : TilePlan → ℕ → View
+first_view p workers = record { number = 0; hand = None; missed = false; share = workers; seen = 0; plan = p; workers = workers; found = 0 }
+
+-- the view after drawing tile d, and after missing
+abbrev pub drawn : View → ℕ → View
+drawn v d = record v { hand = Some d; seen = d + 1; found = d }
+
+abbrev pub missing : View → ℕ → View
+missing v d = record v { missed = true; found = d }
+
+-- the view after an arrival that found n: idle, or with the merge above in hand
+abbrev pub idle : View → ℕ → View
+idle v n = record v { hand = None; found = n }
+
+abbrev pub with_merge : View → ℕ → ℕ → View
+with_merge v m n = record v { hand = Some m; found = n }
+
+-- the two views of a seat that is split: the second stands for one worker
+abbrev pub split_left : View → View
+split_left v = record v { share = v.share - 1 }
+
+abbrev pub split_right : View → View
+split_right v = record v { share = 1; seen = 0; number = v.share - 1 }
+
+-- the view of two seats that are joined, and what is left over
+abbrev pub joined : View → View → View
+joined u v = record u { share = u.share + v.share; seen = max u.seen v.seen }
+
+abbrev pub left_over : View
+left_over = first_view no_plan 0

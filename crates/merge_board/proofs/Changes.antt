@@ -37,3 +37,7 @@ no_hand v i a b = none-some i (sym a ∙ b)
 
 pub one_hand : (v : View) (i j : ℕ) → v.hand ≡ Some i → v.hand ≡ Some j → i ≡ j
 one_hand v i j a b = same_Some i j (sym a ∙ b)
+
+-- a seat with a part isn't one without
+pub apart_from : (views : Views) (id k i : ℕ) (u v : View) → Shows views id v → v.hand ≡ None → Shows views k u → u.hand ≡ Some i → k ≢ id
+apart_from views id k i u v shows hand h e same = no_hand v i hand (sym (ap (λ (x : View). x.hand) (one_view views id u v (subst (λ (a : ℕ). Shows views a u) same h) shows)) ∙ e)

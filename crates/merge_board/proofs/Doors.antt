@@ -3,11 +3,18 @@ use Rattle.std.proofs.Common.{◌≡◌, ◌≢◌, ℕ, ◌+◌, ◌-◌, ◌*�
 use Rattle.std.proofs.lemmas.Bool.{cases_eq, cases_lt}
 use Rattle.tile_plan.specs.Plan.{TilePlan, IsPlan, tile_count, part_count, root, mother, weight, left, right, sibling}
 use Rattle.tile_plan.specs.Laws.{HasMother}
-use Rattle.tile_plan.proofs.Mothers.{has_mother}
+use Rattle.tile_plan.specs.Plan.{grid_of}
+use Rattle.tile_plan.specs.Grids.{tree_in}
+use Rattle.tile_plan.proofs.Cuts.{tiles-some}
+use Rattle.tile_plan.proofs.Mothers.{has_mother, plan-tiles}
 use Rattle.tile_plan.proofs.Ranges.{is_somewhere}
 use Rattle.merge_board.specs.Board.{Words, IsPart, IsFormed, IsAtHome, IsSpent, HasArrived, IsInHand, word_of, door}
 
 module _ (p : TilePlan) (plan : IsPlan p) where
+  -- a plan has a tile
+  pub some_plan : 1 ≤ tile_count p
+  some_plan = let a = plan-tiles p plan in let b = tiles-some (tree_in (grid_of p)) in omega (arith, a, b)
+
   -- no arrival is at word 0, and each is at a word
   pub door_some : (i : ℕ) → IsPart p i → 1 ≤ door p i
   door_some i h = let m = has_mother p i plan h in let merge = m.merge in omega arith

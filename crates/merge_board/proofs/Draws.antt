@@ -14,7 +14,7 @@ use Rattle.merge_board.proofs.Changes.{IsChange, shown, still_shown, one_view, n
 
 module _ (p : TilePlan) (workers : ℕ) (w w' : Words) (slots slots' : Slots) (views views' : Views) (plan : IsPlan p) (order : IsInOrder p workers w slots views)
     (id : ℕ) (v : View) (shows : Shows views id v) (hand : v.hand ≡ None) (fresh : v.missed ≡ false) (share : 1 ≤ v.share) (more : w 0 < tile_count p)
-    (words : IsChange w w' 0 (w 0 + 1)) (slot : IsChange slots slots' (w 0) none) (view : IsChange views views' id (some (drawn v (w 0)))) where
+    (words : IsChange w w' 0 (w 0 + 1)) (slot : IsChange slots slots' (w 0) (some none)) (view : IsChange views views' id (some (drawn v (w 0)))) where
 
   same_at : (j : ℕ) → IsPart p j → w' (door p j) ≡ w (door p j)
   same_at j h = words.others (door p j) (let s = door_some p plan j h in λ e. omega arith)

@@ -3,3 +3,9 @@ pub mod Changes
 pub mod First
 pub mod Second
 pub mod Draws
+pub mod Calm
+pub mod Sums
+pub mod Allowed
+pub mod Arriving
+pub mod Joining
+pub mod Closing

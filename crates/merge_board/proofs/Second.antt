@@ -52,7 +52,7 @@ module _ (p : TilePlan) (workers : ℕ) (w : Words) (slots : Slots) (views : Vie
 
 module _ (p : TilePlan) (workers : ℕ) (w w' : Words) (slots slots' slots'' : Slots) (views views' : Views) (plan : IsPlan p) (order : IsInOrder p workers w slots views)
     (id i n : ℕ) (v : View) (shows : Shows views id v) (hand : v.hand ≡ Some i) (inner : i ≢ root p) (some_word : w (door p i) ≢ 0)
-    (words : IsChange w w' (door p i) 3) (slot : IsChange slots slots' (sibling p i) none) (slot' : IsChange slots' slots'' (mother p i) none)
+    (words : IsChange w w' (door p i) 3) (slot : IsChange slots slots' (sibling p i) (some none)) (slot' : IsChange slots' slots'' (mother p i) (some none))
     (view : IsChange views views' id (some (with_merge v (mother p i) n))) where
 
   part_i : IsPart p i

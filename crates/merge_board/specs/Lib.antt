@@ -2,3 +2,4 @@ pub mod Fits
 pub mod Board
 pub mod Seats
 pub mod Fields
+pub mod Plays

@@ -9,3 +9,6 @@ pub mod Allowed
 pub mod Arriving
 pub mod Joining
 pub mod Closing
+pub mod Held
+pub mod Places
+pub mod States

@@ -106,3 +106,18 @@ pub record IsBoard (p : TilePlan) (workers : ℕ) (s : State (Option PartState) 
   pub order : IsInOrder p workers (slice_index s.words) (get_elem? s.homes) (get_elem? s.views)
   pub shares : total (λ v. v.share) s.views ≡ workers
   pub draws : slice_index s.words 0 ≤ tile_count p + total missed_share s.views
+
+-- exactly one seat has the part in its hand
+pub record IsHeldOnce (s : State (Option PartState) View) (i : ℕ) : Type 0 where
+  pub seat : ℕ
+  pub view : View
+  pub shows : Shows (get_elem? s.views) seat view
+  pub hand : view.hand ≡ Some i
+  pub alone : (k : ℕ) (v : View) → Shows (get_elem? s.views) k v → v.hand ≡ Some i → k ≡ seat
+
+-- The state of a part: unborn; in exactly one seat's hand; at home, where its slot has the part that fits; or spent.
+pub data IsStatus (p : TilePlan) (s : State (Option PartState) View) (i : ℕ) : Type 0 where
+  Unborn : IsUnborn p (slice_index s.words) i → (HasArrived p (slice_index s.words) i → ⊥) → IsStatus p s i
+  InHand : IsInHand p (slice_index s.words) i → IsHeldOnce s i → IsStatus p s i
+  AtHome : IsAtHome p (slice_index s.words) i → (part : PartState) → Keeps (get_elem? s.homes) i part → Fits p i part → IsStatus p s i
+  Spent : IsSpent p (slice_index s.words) i → IsStatus p s i

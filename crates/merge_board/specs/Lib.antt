@@ -3,3 +3,4 @@ pub mod Board
 pub mod Seats
 pub mod Fields
 pub mod Plays
+pub mod Calls

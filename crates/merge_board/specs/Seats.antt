@@ -1,7 +1,32 @@
 -- Seats: what contracts see of one, and how each step changes its view.
 use Rattle.std.specs.Prelude.{◌≡◌, ◌≢◌, ℕ, ◌+◌, ◌-◌, ◌<◌, ◌≤◌, List, [], ◌∷◌, max, Option, Some, None, true, false}
 use Rattle.tile_plan.specs.Plan.{TilePlan, tile_count}
+use Rattle.atomic_table.specs.Seated.{TableId}
 use Rattle.merge_board.specs.declared.view.View.{View}
+
+-- A seat as contracts see it: which table it is of, and its view.
+pub record SeatState : Type 0 where
+  pub table : TableId
+  pub view : View
+
+-- A board as contracts see it: which table it has, its plan and its number of workers.
+pub record BoardState : Type 0 where
+  pub table : TableId
+  pub plan : TilePlan
+  pub workers : ℕ
+
+-- the seat is of this board
+pub record IsSeatOf (seat : SeatState) (board : BoardState) : Type 0 where
+  pub table : seat.table ≡ board.table
+  pub plan : seat.view.plan ≡ board.plan
+  pub workers : seat.view.workers ≡ board.workers
+
+-- the seat is idle, and has missed, or has not
+abbrev pub IsReady : SeatState → Type 0
+IsReady seat = (seat.view.hand ≡ None) × (seat.view.missed ≡ false)
+
+abbrev pub IsDone : SeatState → Type 0
+IsDone seat = (seat.view.hand ≡ None) × (seat.view.missed ≡ true)
 
 -- the plan without a vertex
 abbrev pub no_plan : TilePlan

@@ -1,7 +1,15 @@
 //! The board on which workers draw tiles and join parts, in any order of their steps.
 #![tactic(auto)]
 
-mod view;
+mod arrival;
+mod board;
+pub mod laws;
+mod place;
 mod rule;
+mod seat;
+mod view;
 
+pub use arrival::Arrival;
+pub use board::Board;
+pub use seat::Seat;
 pub use view::View;

@@ -12,3 +12,5 @@ pub mod Closing
 pub mod Held
 pub mod Places
 pub mod States
+pub mod Handing
+pub mod Joins

@@ -1,5 +1,5 @@
 ghost use Rattle.std.specs.Prelude.{◌≡◌, ◌≢◌, ℕ, ◌+◌, ◌-◌, ◌*◌, ◌^◌, ◌%◌, ◌<◌, ◌≤◌, [], ◌∷◌, None, Some, false, IfSome, IfNone};
-ghost use Rattle.tile_plan.specs.Plan.{part_count, root, mother, weight, sibling, side_of};
+ghost use Rattle.tile_plan.specs.Plan.{IsPlan, part_count, root, mother, weight, sibling, side_of};
 ghost use Rattle.merge_board.specs.Fits.{Fits};
 ghost use Rattle.merge_board.specs.Board.{door};
 ghost use Rattle.merge_board.specs.Plays.{AreTurns, ArrivesWith};
@@ -94,6 +94,7 @@ impl Board {
         requires turns { AreTurns self.now.plan (Some number) token.old.me.1 }
         requires fits { Fits self.now.plan number part }
         ensures token { (token.new.table_id ≡ token.old.table_id) × (token.new.id ≡ token.old.id) }
+        ensures plan { IsPlan self.now.plan }
         ensures arrives { ArrivesWith number (token.old.me.0, (number, Some part) ∷ []) result token.new.me }
     {
         let shared = &self.table.shared;

@@ -1,0 +1,114 @@
+-- What the conditions of building and joining parts ask, from what fits a plan.
+use Rattle.std.proofs.Common.{◌≡◌, ◌≢◌, ℕ, ◌+◌, ◌-◌, ◌*◌, ◌^◌, ◌<◌, ◌≤◌, ◌⊎◌, inl, inr, refl, sym, ◌∙◌, subst, ap, arith, List, [], ◌∷◌, ◌++◌, length, map}
+use Rattle.hg_base.specs.Edges.{ListedEdge, EdgeList, IsIn, AreApart}
+use Rattle.hg_base.specs.Placed.{placed}
+use Rattle.node_region.specs.Pool.{count, IsCovered, IsNextTo}
+use Rattle.border_climb.specs.Stands.{PartState, Stands}
+use Rattle.border_climb.specs.Standin.{IsLotFor, IsBorder, IsFreshPart}
+use Rattle.tile_plan.specs.Plan.{TilePlan, IsPlan, IsPlaceOf, tile_count, part_count, root, mother, left, right, first_place, end_place, first_tile, tiles_of, post, lot_edges, edges_at, room_tiles, room_places, start}
+use Rattle.tile_plan.specs.Laws.{HasHalves, JoinsHalves, IsSomewhere, IsTile, HasEdges, Crosses}
+use Rattle.tile_plan.proofs.Mothers.{has_halves}
+use Rattle.tile_plan.proofs.Ranges.{is_somewhere, is_tile}
+use Rattle.tile_plan.proofs.Edges.{joins_halves, crosses, has_edges}
+use Rattle.merge_board.specs.Fits.{Fits, Opened, IsFitting, IsOpened, IsShapedFor}
+
+-- the two definitions, opened
+pub fitting : (p : TilePlan) (i : ℕ) (part : PartState) → Fits p i part → IsFitting p i part
+unfolding Fits
+fitting p i part h = h
+
+pub fits : (p : TilePlan) (i : ℕ) (part : PartState) → IsFitting p i part → Fits p i part
+unfolding Fits
+fits p i part h = h
+
+pub opened : (p : TilePlan) (i : ℕ) (part : PartState) → Opened p i part → IsOpened p i part
+unfolding Opened
+opened p i part h = h
+
+pub opens : (p : TilePlan) (i : ℕ) (part : PartState) → IsOpened p i part → Opened p i part
+unfolding Opened
+opens p i part h = h
+
+-- a place of part i is one that the part covers
+pub covers : (p : TilePlan) (i : ℕ) (part : PartState) (x : ℕ) → IsShapedFor p i part → IsPlaceOf p i x → IsCovered part.region x
+covers p i part x s h = let a = s.first in let b = s.places in let c = h.0 in let d = h.1 in (omega arith, omega arith)
+
+-- the lot of a tile is one that its opened part can be built from
+pub lot_fits : (p : TilePlan) (t : ℕ) (part : PartState) → IsPlan p → t < tile_count p → Opened p t part → IsLotFor part (lot_edges p t) (map placed (lot_edges p t))
+lot_fits p t part h low o = record {
+  same = refl;
+  first_ends = λ e at. covers p t part e.u (opened p t part o).shape (edges.first_ends e (in_all e at));
+  second_ends = λ e at. covers p t part e.v (opened p t part o).shape (edges.second_ends e (in_all e at));
+  two_ends = λ e at. (edges.among e (in_all e at)).apart;
+  apart = subst (λ (s : EdgeList). AreApart s) tile.edges edges.apart;
+  small = λ e at. (let r = (edges.among e (in_all e at)).rank in omega arith)
+}
+  where
+    edges : HasEdges p t
+    edges = has_edges p t h (omega arith)
+    tile : IsTile p t
+    tile = is_tile p t h low
+    in_all : (e : ListedEdge) → IsIn e (lot_edges p t) → IsIn e (edges_at p t)
+    in_all e at = subst (λ (s : EdgeList). IsIn e s) (sym tile.edges) at
+
+-- what was built from a tile's opened part and its lot fits the tile
+pub built_fits : (p : TilePlan) (t : ℕ) (part made : PartState) → IsPlan p → t < tile_count p → Opened p t part → Stands made (lot_edges p t) → made.lots ≡ t ∷ []
+    → made.region.first ≡ part.region.first → count made.region ≡ count part.region → made.region.chunks ≡ part.region.chunks → made.region.room ≡ part.region.room → Fits p t made
+built_fits p t part made h low o stands lots first places chunks room = fits p t made (record {
+  shape = record { first = first ∙ o'.shape.first; places = places ∙ o'.shape.places; chunks = chunks ∙ o'.shape.chunks; room = room ∙ o'.shape.room };
+  lots = lots ∙ sym tile.post;
+  stands = subst (λ (s : EdgeList). Stands made s) (sym tile.edges) stands
+})
+  where
+    o' : IsOpened p t part
+    o' = opened p t part o
+    tile : IsTile p t
+    tile = is_tile p t h low
+
+module _ (p : TilePlan) (m : ℕ) (a b : PartState) (plan : IsPlan p) (low : tile_count p ≤ m) (high : m < part_count p) (left_fits : Fits p (left p m) a) (right_fits : Fits p (right p m) b) where
+  halves : HasHalves p m
+  halves = has_halves p m plan low high
+
+  fa : IsFitting p (left p m) a
+  fa = fitting p (left p m) a left_fits
+
+  fb : IsFitting p (right p m) b
+  fb = fitting p (right p m) b right_fits
+
+  joins : JoinsHalves p m
+  joins = joins_halves p m plan low high
+
+  edges : HasEdges p m
+  edges = has_edges p m plan high
+
+  in_all : (e : ListedEdge) → IsIn e (lot_edges p m) → IsIn e (edges_at p m)
+  in_all e at = ?
+
+  -- the border of a merge is one that the two halves can be joined by
+  pub border_fits : IsBorder a b (edges_at p (left p m)) (edges_at p (right p m)) (lot_edges p m) (map placed (lot_edges p m))
+  border_fits = record {
+    same = refl;
+    left_ = fa.stands;
+    right_ = fb.stands;
+    apart = subst (λ (s : EdgeList). AreApart s) joins.edges edges.apart;
+    small = λ e at. (let r = (edges.among e (in_all e at)).rank in omega arith);
+    crossing = λ e at. cross e (crosses p m e plan low high at)
+  }
+    where
+      cross : (e : ListedEdge) → Crosses p m e → (IsCovered a.region e.u × IsCovered b.region e.v) ⊎ (IsCovered a.region e.v × IsCovered b.region e.u)
+      cross e (inl t) = inl (covers p (left p m) a e.u fa.shape t.0, covers p (right p m) b e.v fb.shape t.1)
+      cross e (inr t) = inr (covers p (left p m) a e.v fa.shape t.0, covers p (right p m) b e.u fb.shape t.1)
+
+  -- what was joined fits the merge
+  pub joined_fits : (made : PartState) → Stands made ((edges_at p (left p m) ++ edges_at p (right p m)) ++ lot_edges p m) → made.lots ≡ (a.lots ++ b.lots) ++ m ∷ [] → made.region.first ≡ a.region.first
+      → count made.region ≡ count a.region + count b.region → made.region.chunks ≡ a.region.chunks + b.region.chunks → made.region.room ≡ a.region.room → Fits p m made
+  joined_fits made stands lots first places chunks room = fits p m made (record {
+    shape = record {
+      first = first ∙ fa.shape.first ∙ halves.left_place;
+      places = places ∙ ?;
+      chunks = chunks ∙ ?;
+      room = room ∙ fa.shape.room ∙ ap (λ (t : ℕ). record { places = start p (t + room_tiles p t) - start p t; chunks = room_tiles p t }) halves.left_first
+    };
+    lots = lots ∙ ?;
+    stands = subst (λ (s : EdgeList). Stands made s) (sym joins.edges) stands
+  })

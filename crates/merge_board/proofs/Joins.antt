@@ -10,6 +10,15 @@ use Rattle.tile_plan.specs.Laws.{HasHalves, JoinsHalves, IsSomewhere, IsTile, Ha
 use Rattle.tile_plan.proofs.Mothers.{has_halves}
 use Rattle.tile_plan.proofs.Ranges.{is_somewhere, is_tile}
 use Rattle.tile_plan.proofs.Edges.{joins_halves, crosses, has_edges}
+use Rattle.hg_base.specs.declared.graph.Room.{Room}
+use Rattle.hg_base.proofs.Components.{IsIn-append}
+use Rattle.std.proofs.lemmas.List.{length-append}
+use Rattle.tile_plan.specs.Merges.{MergeTree, Tile, Merge, tiles, merges}
+use Rattle.tile_plan.specs.Sites.{post_order, left_site, right_site}
+use Rattle.tile_plan.specs.declared.site.Site.{Site}
+use Rattle.tile_plan.specs.Plan.{part}
+use Rattle.tile_plan.proofs.Cuts.{tiles-merges}
+use Rattle.tile_plan.proofs.Ranges.{start-rises}
 use Rattle.merge_board.specs.Fits.{Fits, Opened, IsFitting, IsOpened, IsShapedFor}
 
 -- the two definitions, opened
@@ -82,7 +91,7 @@ module _ (p : TilePlan) (m : ℕ) (a b : PartState) (plan : IsPlan p) (low : til
   edges = has_edges p m plan high
 
   in_all : (e : ListedEdge) → IsIn e (lot_edges p m) → IsIn e (edges_at p m)
-  in_all e at = ?
+  in_all e at = subst (λ (s : EdgeList). IsIn e s) (sym joins.edges) (IsIn-append e (edges_at p (left p m) ++ edges_at p (right p m)) (lot_edges p m) (inr at))
 
   -- the border of a merge is one that the two halves can be joined by
   pub border_fits : IsBorder a b (edges_at p (left p m)) (edges_at p (right p m)) (lot_edges p m) (map placed (lot_edges p m))
@@ -99,16 +108,55 @@ module _ (p : TilePlan) (m : ℕ) (a b : PartState) (plan : IsPlan p) (low : til
       cross e (inl t) = inl (covers p (left p m) a e.u fa.shape t.0, covers p (right p m) b e.v fb.shape t.1)
       cross e (inr t) = inr (covers p (left p m) a e.v fa.shape t.0, covers p (right p m) b e.u fb.shape t.1)
 
+  left_is : IsSomewhere p (left p m)
+  left_is = is_somewhere p (left p m) plan (let b = halves.left_below in omega arith)
+
+  right_is : IsSomewhere p (right p m)
+  right_is = is_somewhere p (right p m) plan (let b = halves.right_below in omega arith)
+
+  merge_is : IsSomewhere p m
+  merge_is = is_somewhere p m plan high
+
+  both_places : count a.region + count b.region ≡ end_place p m - first_place p m
+  both_places = let ca = fa.shape.places in let cb = fb.shape.places in let l = left_is.some_place in let r = right_is.some_place in let x = halves.left_place in let y = halves.right_place in let z = halves.end_ in omega (arith, ca, cb, l, r, x, y, z)
+
+  joined_places : (made : PartState) → count made.region ≡ count a.region + count b.region → count made.region ≡ end_place p m - first_place p m
+  joined_places made e = e ∙ both_places
+
+  -- the second half begins where the first ends, and the room of the first holds both
+  pub halves_next : IsNextTo a.region b.region
+  halves_next = record {
+    next = (let x = fb.shape.first in let y = halves.right_place in let f = fa.shape.first in let g = fa.shape.places in let l = left_is.some_place in omega (arith, x, y, f, g, l));
+    places = subst (λ (r : ℕ). count a.region + count b.region ≤ r) (sym (ap (λ (r : Room). r.places) room_is)) (let e = both_places in let l = start-rises p (first_tile p m + tiles_of p m) (first_tile p m + room_tiles p (first_tile p m)) (let q = merge_is.room in omega arith) in omega (arith, e, l));
+    chunks = subst (λ (r : ℕ). a.region.chunks + b.region.chunks ≤ r) (sym (ap (λ (r : Room). r.chunks) room_is)) (let ca = fa.shape.chunks in let cb = fb.shape.chunks in let t = halves.tiles in let q = merge_is.room in omega (arith, ca, cb, t, q))
+  }
+    where
+      room_is : a.region.room ≡ record { places = start p (first_tile p m + room_tiles p (first_tile p m)) - start p (first_tile p m); chunks = room_tiles p (first_tile p m) }
+      room_is = fa.shape.room ∙ ap (λ (t : ℕ). record { places = start p (t + room_tiles p t) - start p t; chunks = room_tiles p t }) halves.left_first
+
   -- what was joined fits the merge
   pub joined_fits : (made : PartState) → Stands made ((edges_at p (left p m) ++ edges_at p (right p m)) ++ lot_edges p m) → made.lots ≡ (a.lots ++ b.lots) ++ m ∷ [] → made.region.first ≡ a.region.first
       → count made.region ≡ count a.region + count b.region → made.region.chunks ≡ a.region.chunks + b.region.chunks → made.region.room ≡ a.region.room → Fits p m made
   joined_fits made stands lots first places chunks room = fits p m made (record {
     shape = record {
       first = first ∙ fa.shape.first ∙ halves.left_place;
-      places = places ∙ ?;
-      chunks = chunks ∙ ?;
+      places = joined_places made places;
+      chunks = (let ca = fa.shape.chunks in let cb = fb.shape.chunks in let t = halves.tiles in omega (arith, ca, cb, t, chunks));
       room = room ∙ fa.shape.room ∙ ap (λ (t : ℕ). record { places = start p (t + room_tiles p t) - start p t; chunks = room_tiles p t }) halves.left_first
     };
-    lots = lots ∙ ?;
+    lots = lots ∙ (λ k. (fa.lots k ++ fb.lots k) ++ m ∷ []) ∙ sym joins.parts;
     stands = subst (λ (s : EdgeList). Stands made s) (sym joins.edges) stands
   })
+
+-- a part has as many lots as there are parts at and below it
+post-length : (n : ℕ) (t : MergeTree) (s : Site) → length (post_order n t s) ≡ tiles t + merges t
+post-length n Tile s = refl
+post-length n (Merge by k x y) s =
+    let a = post-length n x (left_site n x y s) in let b = post-length n y (right_site n x y s) in
+    let c = length-append (post_order n x (left_site n x y s) ++ post_order n y (right_site n x y s)) ((n + s.first_merge + merges x + merges y) ∷ []) in
+    let d = length-append (post_order n x (left_site n x y s)) (post_order n y (right_site n x y s)) in omega (arith, a, b, c, d)
+
+pub lots_length : (p : TilePlan) (i : ℕ) (made : PartState) → Fits p i made → length made.lots ≡ 2 * made.region.chunks - 1
+lots_length p i made f =
+    let a = post-length (tile_count p) (part p i).tree (part p i).site in let b = tiles-merges (part p i).tree in let c = (fitting p i made f).shape.chunks in
+    let d = ap (λ (l : List ℕ). length l) (fitting p i made f).lots in omega (arith, a, b, c, d)

@@ -7,6 +7,7 @@ pub mod laws;
 mod place;
 mod rule;
 mod seat;
+mod serve;
 mod view;
 
 pub use arrival::Arrival;

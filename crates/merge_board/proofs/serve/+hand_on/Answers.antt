@@ -5,7 +5,8 @@ use Rattle.border_climb.specs.Standin.{IsBorder}
 use Rattle.tile_plan.specs.Plan.{TilePlan, IsPlan, tile_count, part_count, root, mother, left, right, edges_at, lot_edges}
 use Rattle.merge_board.specs.Seats.{with_merge}
 use Rattle.merge_board.specs.declared.view.View.{View}
-use Rattle.merge_board.proofs.Doors.{mother_merge, mother_inner}
+use Rattle.merge_board.proofs.Doors.{mother_merge, mother_inner, mother_later}
+use Rattle.merge_board.specs.Fits.{Fits}
 use Rattle.merge_board.proofs.Joins.{halves_next, border_fits, joined_fits, lots_length}
 use Rattle.merge_board.proofs.serve.+hand_on.Goals as goal
 
@@ -46,21 +47,8 @@ join-part-requires-clause-border g t c =
       subst (λ (l : List PlacedEdge). IsBorder c.in-Both.left c.in-Both.right (edges_at c.args.board.now.plan (left c.args.board.now.plan c.in-Both.merge)) (edges_at c.args.board.now.plan (right c.args.board.now.plan c.in-Both.merge)) (lot_edges c.args.board.now.plan c.in-Both.merge) l) (sym lot) (border_fits c.args.board.now.plan c.in-Both.merge c.in-Both.left c.in-Both.right c.requires.whole low high a.1.1.1.0 a.1.1.1.1) in
     (edges_at c.args.board.now.plan (left c.args.board.now.plan c.in-Both.merge), edges_at c.args.board.now.plan (right c.args.board.now.plan c.in-Both.merge), lot_edges c.args.board.now.plan c.in-Both.merge, border)
 
-pub hand_on-requires-clause-hand : goal.hand_on-requires-clause-hand
-hand_on-requires-clause-hand g t c κs within =
-    let a = c.in-Both.ensures.arrival c.args.number c.requires.hand in
-    ap (λ (v : View). v.hand) a.1.1.0
-
-pub hand_on-requires-clause-part : goal.hand_on-requires-clause-part
-hand_on-requires-clause-part g t c κs within =
-    let a = c.in-Both.ensures.arrival c.args.number c.requires.hand in
-    let above : c.in-Both.merge ≡ mother c.args.board.now.plan c.args.number = a.1.0 in
-    let low : tile_count c.args.board.now.plan ≤ c.in-Both.merge = subst (λ (m : ℕ). tile_count c.args.board.now.plan ≤ m) (sym above) (mother_merge c.args.board.now.plan c.requires.whole c.args.number c.requires.part) in
-    let high : c.in-Both.merge < part_count c.args.board.now.plan = subst (λ (m : ℕ). m < part_count c.args.board.now.plan) (sym above) (mother_inner c.args.board.now.plan c.requires.whole c.args.number c.requires.part a.0) in
-    high
-
-pub hand_on-requires-clause-fits : goal.hand_on-requires-clause-fits
-hand_on-requires-clause-fits g t c κs within =
+pub hand_on-requires : goal.hand_on-requires
+hand_on-requires g t c κs within =
     let a = c.in-Both.ensures.arrival c.args.number c.requires.hand in
     let above : c.in-Both.merge ≡ mother c.args.board.now.plan c.args.number = a.1.0 in
     let low : tile_count c.args.board.now.plan ≤ c.in-Both.merge = subst (λ (m : ℕ). tile_count c.args.board.now.plan ≤ m) (sym above) (mother_merge c.args.board.now.plan c.requires.whole c.args.number c.requires.part) in
@@ -68,6 +56,10 @@ hand_on-requires-clause-fits g t c κs within =
     let lot : c.lot.result.now ≡ map placed (lot_edges c.args.board.now.plan c.in-Both.merge) = c.lot.ensures.value ∙ ap (λ (q : TilePlan). map placed (lot_edges q c.in-Both.merge)) c.requires.plan in
     let border : IsBorder c.in-Both.left c.in-Both.right (edges_at c.args.board.now.plan (left c.args.board.now.plan c.in-Both.merge)) (edges_at c.args.board.now.plan (right c.args.board.now.plan c.in-Both.merge)) (lot_edges c.args.board.now.plan c.in-Both.merge) c.lot.result.now =
       subst (λ (l : List PlacedEdge). IsBorder c.in-Both.left c.in-Both.right (edges_at c.args.board.now.plan (left c.args.board.now.plan c.in-Both.merge)) (edges_at c.args.board.now.plan (right c.args.board.now.plan c.in-Both.merge)) (lot_edges c.args.board.now.plan c.in-Both.merge) l) (sym lot) (border_fits c.args.board.now.plan c.in-Both.merge c.in-Both.left c.in-Both.right c.requires.whole low high a.1.1.1.0 a.1.1.1.1) in
-    joined_fits c.args.board.now.plan c.in-Both.merge c.in-Both.left c.in-Both.right c.requires.whole low high a.1.1.1.0 a.1.1.1.1 c.join-part.result
+    let later : c.args.number < c.in-Both.merge = subst (λ (m : ℕ). c.args.number < m) (sym above) (mother_later c.args.board.now.plan c.requires.whole c.args.number c.requires.part) in
+    let falls : part_count c.args.board.now.plan - c.in-Both.merge < part_count c.args.board.now.plan - c.args.number = omega arith in
+    let hand : c.arrive-arrival.new.seat.view.hand ≡ Some c.in-Both.merge = ap (λ (v : View). v.hand) a.1.1.0 in
+    let fits : Fits c.args.board.now.plan c.in-Both.merge c.join-part.result = joined_fits c.args.board.now.plan c.in-Both.merge c.in-Both.left c.in-Both.right c.requires.whole low high a.1.1.1.0 a.1.1.1.1 c.join-part.result
       (c.join-part.ensures.stands (edges_at c.args.board.now.plan (left c.args.board.now.plan c.in-Both.merge)) (edges_at c.args.board.now.plan (right c.args.board.now.plan c.in-Both.merge)) (lot_edges c.args.board.now.plan c.in-Both.merge) border)
-      c.join-part.ensures.lots c.join-part.ensures.range.0 c.join-part.ensures.range.1 c.join-part.ensures.chunks.0 c.join-part.ensures.chunks.1
+      c.join-part.ensures.lots c.join-part.ensures.range.0 c.join-part.ensures.range.1 c.join-part.ensures.chunks.0 c.join-part.ensures.chunks.1 in
+    (first_of (omega (arith, falls, c.decreases), search (rules, falls), grind (arith, falls)), (search rules, (search rules, (c.arrive-arrival.ensures.seat, (c.requires.plan, (hand, (c.requires.whole, (high, fits))))))))

@@ -7,10 +7,11 @@ pub mod laws;
 mod place;
 mod rule;
 mod seat;
-mod serve;
+mod serving;
 mod view;
 
 pub use arrival::Arrival;
 pub use board::Board;
 pub use seat::Seat;
+pub use serving::serve;
 pub use view::View;

@@ -8,7 +8,7 @@ use Rattle.merge_board.specs.declared.view.View.{View}
 use Rattle.merge_board.proofs.Doors.{mother_merge, mother_inner, mother_later}
 use Rattle.merge_board.specs.Fits.{Fits}
 use Rattle.merge_board.proofs.Joins.{halves_next, border_fits, joined_fits, lots_length}
-use Rattle.merge_board.proofs.serve.+hand_on.Goals as goal
+use Rattle.merge_board.proofs.serving.+hand_on.Goals as goal
 
 pub lot-requires : goal.lot-requires
 lot-requires g t c =

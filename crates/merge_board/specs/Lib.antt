@@ -4,3 +4,4 @@ pub mod Seats
 pub mod Fields
 pub mod Plays
 pub mod Calls
+pub mod SeatsFields

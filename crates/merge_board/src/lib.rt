@@ -7,11 +7,13 @@ pub mod laws;
 mod place;
 mod rule;
 mod seat;
+mod seats;
 mod serving;
 mod view;
 
 pub use arrival::Arrival;
 pub use board::Board;
 pub use seat::Seat;
+pub use seats::Seats;
 pub use serving::serve;
 pub use view::View;

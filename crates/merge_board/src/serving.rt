@@ -46,16 +46,14 @@ pub fn serve<G: Gate>(board: &Board, plan: &Plan, seat: &mut Seat, gate: &G)
     ensures done { IsDone seat.new }
     ensures number { seat.new.view.number ≡ seat.old.view.number }
 {
-    let Some(part) = board.draw(plan, seat) else {
-        return;
-    };
-    let Some(tile) = seat.hand() else {
-        unreachable!()
-    };
-    gate.pass(seat.number(), GateEvent::Drew(tile));
-    let part = built(plan, tile, part);
-    hand_on(board, plan, seat, gate, tile, part);
-    serve(board, plan, seat, gate);
+    while let Some(part) = board.draw(plan, seat) {
+        let Some(tile) = seat.hand() else {
+            unreachable!()
+        };
+        gate.pass(seat.number(), GateEvent::Drew(tile));
+        let part = built(plan, tile, part);
+        hand_on(board, plan, seat, gate, tile, part);
+    }
 }
 
 // A tile's part with the tile's lot.

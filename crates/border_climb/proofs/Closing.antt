@@ -35,7 +35,9 @@ apart-for_good : (e : ListedEdge) (s : EdgeList) (a b k : ℕ) → Apart e s a b
 apart-for_good e s a b k m none j up =
     let above : e.rank < k = m.above in
     record {
-      apart = m.apart; ends = m.ends; above = omega arith;
+      apart = m.apart;
+      ends = m.ends;
+      above = omega arith;
       unjoined = apart-back (below s j) b a
           (stays-before s m.apart.1 b k j a up (subst (λ (o : Option ListedEdge). IsUpTo o j) (sym none) tt) ∙ apart-back (below s k) a b m.unjoined);
     }
@@ -86,9 +88,11 @@ close-single old new e s t first m link = (
     here : (d : Cell) → d.rank ≡ m.seat.cell.rank → d.up ≡ first → IsCellOf new (e ∷ s) d
     here d r up =
         let comes : next (e ∷ s) m.edge.u (suc m.edge.rank) ≡ next s m.a (suc m.edge.rank) =
-            next-single e s m.a m.b (suc m.edge.rank) (apart-merging old e s t first None m) m.edge.u m.at_end (points-none old _ m.second_link) in
+        next-single e s m.a m.b (suc m.edge.rank) (apart-merging old e s t first None m) m.edge.u m.at_end (points-none old _ m.second_link) in
         record {
-          edge = m.edge; joins = m.joins; rank = r ∙ m.seat.has;
+          edge = m.edge;
+          joins = m.joins;
+          rank = r ∙ m.seat.has;
           up = subst (λ (o : Option ℕ). Points new o (next (e ∷ s) m.edge.u (suc m.edge.rank))) (sym up)
               (points-kept old new (relinked-ranks old new t first link) first (next (e ∷ s) m.edge.u (suc m.edge.rank))
               (subst (λ (w : Option ListedEdge). Points old first w) (sym comes) m.first_link));
@@ -155,15 +159,16 @@ meeting-kept : (e : ListedEdge) (s : EdgeList) (a b k : ℕ) (z : ListedEdge) �
     IsIn g (joins (e ∷ s)) × (next (e ∷ s) g.u (suc g.rank) ≡ next s g.u (suc g.rank))
 meeting-kept e s a b k z m g i up unlike =
     let first = meets-ends e s a b z m.far.ends (meets-first e s a b k z m) in
-    let above : e.rank < k = m.far.above in
-    ((joins-kept e s m.far.apart (needed e s a b k m.far) g (IsIn-joins_kept s g i).0).1 (i, λ other. unlike (one z g first other)),
-    elim (cases_order g.rank z.rank) [
-      | inl level ↦ absurd (unlike level)
-      | inr rest ↦ elim rest [
-        | inl low ↦ below-meeting low
-        | inr high ↦ next-joined e s m.far.apart g.u (suc g.rank) (omega arith) (holds (below s (suc g.rank)) e.u e.v (first.behind (suc g.rank) (omega arith)))
-      ]
-    ])
+    let above : e.rank < k = m.far.above in (
+      (joins-kept e s m.far.apart (needed e s a b k m.far) g (IsIn-joins_kept s g i).0).1 (i, λ other. unlike (one z g first other)),
+      elim (cases_order g.rank z.rank) [
+        | inl level ↦ absurd (unlike level)
+        | inr rest ↦ elim rest [
+          | inl low ↦ below-meeting low
+          | inr high ↦ next-joined e s m.far.apart g.u (suc g.rank) (omega arith) (holds (below s (suc g.rank)) e.u e.v (first.behind (suc g.rank) (omega arith)))
+        ]
+      ],
+    )
   where
     one : (y w : ListedEdge) → MeetFirst s e.u e.v y → MeetFirst s e.u e.v w → w.rank ≡ y.rank
     one y w p q =
@@ -180,7 +185,9 @@ meeting-kept e s a b k z m g i up unlike =
     below-meeting low =
         let above : e.rank < k = m.far.above in
         let far : Apart e s a b (suc g.rank) = record {
-          apart = m.far.apart; ends = m.far.ends; above = omega arith;
+          apart = m.far.apart;
+          ends = m.far.ends;
+          above = omega arith;
           unjoined = apart-back (below s (suc g.rank)) b a (stays-before s m.far.apart.1 b k (suc g.rank) a (omega arith) (subst (λ (o : Option ListedEdge). IsUpTo o (suc g.rank)) (sym m.second) (omega arith)) ∙ apart-back (below s k) a b m.far.unjoined);
         } in
         elim (cases_Bool (joined (below s (suc g.rank)) g.u a)) [
@@ -203,7 +210,7 @@ meeting-merging pool e s t i m = go (next s m.a (suc m.edge.rank)) (next s m.b (
         let cells : Some p.cell ≡ Some q.cell = sym p.is ∙ q.is in
         let cells' : p.cell ≡ q.cell = cc in
         let same : f ≡ g = apart-one s m.apart.1 f g (next-is s m.apart.1 m.a (suc m.edge.rank) f ev).0 (next-is s m.apart.1 m.b (suc m.edge.rank) g ew).0
-            (sym p.has ∙ ap (λ (c : Cell). c.rank) cells' ∙ q.has) in
+        (sym p.has ∙ ap (λ (c : Cell). c.rank) cells' ∙ q.has) in
         (f, (record { far = apart-merging pool e s t (Some i) (Some i) m; first = ev; second = ew ∙ ap Some (sym same) }, p))
 
 -- Both chains come to one cell: cell t is linked to what stands above it, and its number is given back. The cell's
@@ -251,9 +258,11 @@ close-both old mid new e s t i c m is link drop =
             | inr higher ↦ (let q = m.high j d eq higher in
                 let r : d.rank ≡ q.edge.rank = q.rank in
                 let kept = meeting-kept e s m.a m.b (suc m.edge.rank) z meet q.edge q.joins (omega arith)
-                    (λ level. not_i (m.alone j i d at.cell eq at.is (q.rank ∙ level ∙ sym at.has))) in
+                (λ level. not_i (m.alone j i d at.cell eq at.is (q.rank ∙ level ∙ sym at.has))) in
                 record {
-                  edge = q.edge; joins = kept.0; rank = q.rank;
+                  edge = q.edge;
+                  joins = kept.0;
+                  rank = q.rank;
                   up = points z meet at d.up q.edge.u (suc q.edge.rank) (next (e ∷ s) q.edge.u (suc q.edge.rank)) refl
                       (subst (λ (v : Option ListedEdge). Points old d.up v) (sym kept.1) q.up);
                 })
@@ -269,10 +278,12 @@ close-both old mid new e s t i c m is link drop =
         let above : suc m.edge.rank ≤ z.rank = (next-is s m.apart.1 m.a (suc m.edge.rank) z meet.first).1.1 in
         let q = m.high i c is (omega arith) in
         let behind : Points old c.up (next s z.u (suc z.rank)) = subst (λ (g : ListedEdge). Points old c.up (next s g.u (suc g.rank)))
-            (cell-edge old s m.apart.1 c q z (next-is s m.apart.1 m.a (suc m.edge.rank) z meet.first).0 level) q.up in
+        (cell-edge old s m.apart.1 c q z (next-is s m.apart.1 m.a (suc m.edge.rank) z meet.first).0 level) q.up in
         let comes : next (e ∷ s) m.edge.u (suc m.edge.rank) ≡ next s z.u (suc z.rank) = next-both e s m.a m.b (suc m.edge.rank) meet.far m.edge.u m.at_end z meet.first meet.second in
         record {
-          edge = m.edge; joins = m.joins; rank = r ∙ m.seat.has;
+          edge = m.edge;
+          joins = m.joins;
+          rank = r ∙ m.seat.has;
           up = subst (λ (o : Option ℕ). Points new o (next (e ∷ s) m.edge.u (suc m.edge.rank))) (sym up)
               (points z meet at c.up m.edge.u (suc m.edge.rank) (next (e ∷ s) m.edge.u (suc m.edge.rank)) refl
               (subst (λ (v : Option ListedEdge). Points old c.up v) (sym comes) behind));

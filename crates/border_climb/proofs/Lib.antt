@@ -6,3 +6,10 @@ pub mod Pools
 pub mod Ways
 pub mod Seams
 pub mod Writes
+pub mod Counting
+pub mod Opens
+pub mod Splices
+pub mod Parts
+pub mod Lots
+pub mod Uniting
+pub mod Checked

@@ -86,7 +86,7 @@ climbs pool s h m l (f ∷ t) x k (Some id) low eq p =
     let tail : t ≡ rest s x (suc f.rank) = filter-tail (chain s x) (IsRising-chain s x h) k f t eq in
     let up : Points pool p.cell.up (next s f.u (suc f.rank)) = subst (λ (g : ListedEdge). Points pool p.cell.up (next s g.u (suc g.rank))) (cell-edge pool s h p.cell q f out.0 p.has) q.up in
     let up' : Points pool p.cell.up (first_edge t) = subst (λ (r : EdgeList). Points pool p.cell.up (first_edge r)) (sym tail)
-        (subst (λ (w : Option ListedEdge). Points pool p.cell.up w) (sym (next-behind s h x f out.0 out.1)) up) in
+    (subst (λ (w : Option ListedEdge). Points pool p.cell.up w) (sym (next-behind s h x f out.0 out.1)) up) in
     (p.cell, (p.is, (p.has, climbs pool s h m l t x (suc f.rank) p.cell.up (omega arith) (sym tail) up')))
 
 -- a climb meets a cell of each rank of its list
@@ -104,7 +104,7 @@ pub met-chain : (pool : CellPool) (s : EdgeList) → AreApart s → (m : ℕ) �
     (f : ListedEdge) → IsIn f (chain s x) → k ≤ f.rank → (id : ℕ) → HasRank pool id f.rank → (d : ℕ) × IsMet pool d o id
 met-chain pool s h m l x k o low p f i up id r =
     let w = meets pool (rest s x k) o (climbs pool s h m l (rest s x k) x k o low refl p) f
-        (IsIn-filter (λ (e : ListedEdge). nat_le k e.rank) f (chain s x) (le-leb k f.rank up) i) in
+    (IsIn-filter (λ (e : ListedEdge). nat_le k e.rank) f (chain s x) (le-leb k f.rank up) i) in
     (w.0, subst (λ (j : ℕ). IsMet pool w.0 o j) (l.alone w.1.0 id w.1.1.1.cell r.cell w.1.1.1.is r.is (w.1.1.1.has ∙ sym r.has)) w.1.1.0)
 
 -- And what is met is of an edge of the chain from there on.
@@ -126,8 +126,8 @@ chain-met pool s h m l (suc d) x k (Some i) (Some f) low eq p id met c is =
     let q = l.cells i p.cell p.is (omega arith) in
     let up : Points pool p.cell.up (next s f.u (suc f.rank)) = subst (λ (g : ListedEdge). Points pool p.cell.up (next s g.u (suc g.rank))) (cell-edge pool s h p.cell q f n.0 p.has) q.up in
     let further = chain-met pool s h m l d x (suc f.rank) p.cell.up (next s x (suc f.rank)) (omega arith) refl
-        (subst (λ (v : Option ListedEdge). Points pool p.cell.up v) (sym (next-behind s h x f n.0 n.1.0)) up)
-        id (subst (λ (y : Cell). IsMet pool d y.up id) (sym same') met.1.1) c is in
+    (subst (λ (v : Option ListedEdge). Points pool p.cell.up v) (sym (next-behind s h x f n.0 n.1.0)) up)
+    id (subst (λ (y : Cell). IsMet pool d y.up id) (sym same') met.1.1) c is in
     let beyond : suc f.rank ≤ further.0.rank = further.1.1.0 in
     (further.0, (further.1.0, (omega arith, further.1.1.1)))
 
@@ -141,10 +141,21 @@ own-chain s f i =
     let p = IsIn-joins_kept s f i in
     IsIn-chain s f.u f (record { member = p.0; joining = p.1; touching = or_left _ _ ((IsSame-joined (below s f.rank)).self f.u) })
 
+-- each edge of a chain has a cell
+pub climb-meets : (pool : CellPool) (s : EdgeList) → AreApart s → AreLinked pool s → (x : ℕ) → Points pool (leaf_of pool x) (next s x 0) → (f : ListedEdge) → IsIn f (chain s x) → (id : ℕ) × HasRank pool id f.rank
+climb-meets pool s h l x p f i =
+    let w = meets pool (rest s x 0) (leaf_of pool x) (climbs pool s h 0 (linked-from pool s l 0) (rest s x 0) x 0 (leaf_of pool x) (omega arith) refl p) f
+    (IsIn-filter (λ (e : ListedEdge). nat_le 0 e.rank) f (chain s x) (le-leb 0 f.rank (omega arith)) i) in
+    (w.1.0, w.1.1.1)
+
 -- Where the links are those of the list, the part stands for it.
 pub Stands-linked : (part : PartState) (s : EdgeList) → AreBetween part.region s → AreLinked part.region s → part.given ≡ length s → Stands part s
 Stands-linked part s b l n = record {
-  first_ends = b.first_ends; second_ends = b.second_ends; two_ends = b.two_ends; apart = b.apart; small = b.small;
+  first_ends = b.first_ends;
+  second_ends = b.second_ends;
+  two_ends = b.two_ends;
+  apart = b.apart;
+  small = b.small;
   traces = λ x cov. subst (λ (t : EdgeList). IsClimb part.region (leaf_of part.region x) (ranks t)) (rest-whole s x)
       (climbs part.region s b.apart 0 (linked-from part.region s l 0) (rest s x 0) x 0 (leaf_of part.region x) (omega arith) refl (l.leafs x cov));
   met = met;

@@ -81,13 +81,22 @@ relinked-alone old new id up m c is alone i j b d eb ed r =
 -- the two chains in the other order
 pub merging-turned : (pool : CellPool) (e : ListedEdge) (s : EdgeList) (t : ℕ) (first second : Option ℕ) → IsMerging pool e s t first second → IsMerging pool e s t second first
 merging-turned pool e s t first second m = record {
-  edge = m.edge; seat = m.seat; joins = m.joins; apart = m.apart; above = m.above;
-  a = m.b; b = m.a;
+  edge = m.edge;
+  seat = m.seat;
+  joins = m.joins;
+  apart = m.apart;
+  above = m.above;
+  a = m.b;
+  b = m.a;
   ends = (elim m.ends [ inl p ↦ inr (p.1, p.0) | inr p ↦ inl (p.1, p.0) ]);
   unjoined = apart-back (below s (suc m.edge.rank)) m.a m.b m.unjoined;
   at_end = or-turned (joined (below s (suc m.edge.rank)) m.edge.u m.a) (joined (below s (suc m.edge.rank)) m.edge.u m.b) m.at_end;
-  first_link = m.second_link; second_link = m.first_link;
-  leafs = m.leafs; low = m.low; high = m.high; alone = m.alone;
+  first_link = m.second_link;
+  second_link = m.first_link;
+  leafs = m.leafs;
+  low = m.low;
+  high = m.high;
+  alone = m.alone;
 }
 
 -- The lower chain's run: f is an edge of a's chain from rank k on, before what comes next on b's.
@@ -165,7 +174,9 @@ run-along old new e s t i second m link f on from before u c is level =
       joins = joins-stays e s m.a m.b f behind in_joins;
       apart = m.apart;
       above = omega arith;
-      a = m.a; b = m.b; ends = m.ends;
+      a = m.a;
+      b = m.b;
+      ends = m.ends;
       unjoined = behind.unjoined;
       at_end = or_left _ _ ((IsSame-joined (below s (suc f.rank))).back m.a f.u (joined-to_end s f m.a out.0 out.1));
       first_link = points-kept old new keeps c.up (next s m.a (suc f.rank))
@@ -197,10 +208,12 @@ run-along old new e s t i second m link f on from before u c is level =
         let first = next-some s m.apart.1 m.a (suc m.edge.rank) f (IsIn-leaving_kept s m.a f on).0 from (IsIn-leaving_kept s m.a f on).1 in
         let near : first.0.rank ≤ f.rank = first.1.1 in
         let comes : next (e ∷ s) m.edge.u (suc m.edge.rank) ≡ Some first.0 =
-            next-lower e s m.a m.b (suc m.edge.rank) (record { apart = m.apart; ends = m.ends; above = omega arith; unjoined = m.unjoined }) m.edge.u m.at_end first.0 first.1.0
-            (IsBefore-to (next s m.b (suc m.edge.rank)) first.0.rank f.rank near before) in
+        next-lower e s m.a m.b (suc m.edge.rank) (record { apart = m.apart; ends = m.ends; above = omega arith; unjoined = m.unjoined }) m.edge.u m.at_end first.0 first.1.0
+        (IsBefore-to (next s m.b (suc m.edge.rank)) first.0.rank f.rank near before) in
         record {
-          edge = m.edge; joins = m.joins; rank = r ∙ m.seat.has;
+          edge = m.edge;
+          joins = m.joins;
+          rank = r ∙ m.seat.has;
           up = subst (λ (o : Option ℕ). Points new o (next (e ∷ s) m.edge.u (suc m.edge.rank))) (sym up)
               (points-kept old new keeps (Some i) (next (e ∷ s) m.edge.u (suc m.edge.rank))
               (subst (λ (w : Option ListedEdge). Points old (Some i) w) (first.1.0 ∙ sym comes) m.first_link));

@@ -36,8 +36,8 @@ last-up pool s h l x r cov (Some i) last =
     let low : last.edge.rank < r = last.low in
     let out = IsIn-leaving_kept s x last.edge last.on_chain in
     let up : Points pool last.seat.cell.up (next s x (suc last.edge.rank)) =
-        subst (λ (w : Option ListedEdge). Points pool last.seat.cell.up w) (sym (next-behind s h x last.edge out.0 out.1))
-        (subst (λ (g : ListedEdge). Points pool last.seat.cell.up (next s g.u (suc g.rank))) (cell-edge pool s h last.seat.cell q last.edge out.0 last.seat.has) q.up) in
+    subst (λ (w : Option ListedEdge). Points pool last.seat.cell.up w) (sym (next-behind s h x last.edge out.0 out.1))
+    (subst (λ (g : ListedEdge). Points pool last.seat.cell.up (next s g.u (suc g.rank))) (cell-edge pool s h last.seat.cell q last.edge out.0 last.seat.has) q.up) in
     subst (λ (w : Option ListedEdge). Points pool (up_of pool x (Some i)) w) (sym (next-later s h x (suc last.edge.rank) (suc r) (omega arith) (IsUpTo-after (next s x (suc last.edge.rank)) r last.last)))
     (subst (λ (o : Option ℕ). Points pool o (next s x (suc last.edge.rank))) (sym (ap (λ (c : Option Cell). option_map_or (λ y. y.up) c None) last.seat.is)) up)
 
@@ -50,7 +50,7 @@ last-none pool s h x r (Some i) last before =
     absurd (next-quiet s h x 0 last.edge out.0 (omega arith) (IsBefore-to (next s x 0) last.edge.rank r (omega arith) before) out.1)
 
 -- a cell of an edge of the chain below r, behind which nothing comes before r, is the last one
-last-one : (pool : CellPool) (s : EdgeList) → AreApart s → AreLinked pool s → (x r : ℕ) (o : Option ℕ) → IsLast pool s x r o → (f : ListedEdge) → IsIn f s → leaves s x f ≡ true → f.rank < r →
+pub last-one : (pool : CellPool) (s : EdgeList) → AreApart s → AreLinked pool s → (x r : ℕ) (o : Option ℕ) → IsLast pool s x r o → (f : ListedEdge) → IsIn f s → leaves s x f ≡ true → f.rank < r →
     IsBefore (next s x (suc f.rank)) r → (j : ℕ) → HasRank pool j f.rank → o ≡ Some j
 last-one pool s h l x r None last f i out low before j at =
     absurd (next-quiet s h x 0 f i (omega arith) (IsBefore-to (next s x 0) f.rank r (omega arith) last) out)
@@ -109,7 +109,9 @@ opening old new e s first second id m = record {
   joins = joins-new e s needed;
   apart = m.apart;
   above = omega arith;
-  a = e.u; b = e.v; ends = inl (refl, refl);
+  a = e.u;
+  b = e.v;
+  ends = inl (refl, refl);
   unjoined = joined-step_without s e.rank (λ f i r. m.apart.0 f i (sym r)) e.u e.v ∙ m.unjoined;
   at_end = or_left _ _ ((IsSame-joined (below s (suc e.rank))).self e.u);
   first_link = points-kept old new ranks (up_of old e.u first) (next s e.u (suc e.rank)) (last-up old s m.apart.1 m.links e.u e.rank m.first_end first m.first_last);
@@ -148,7 +150,7 @@ opening old new e s first second id m = record {
         let low : last.edge.rank < e.rank = last.low in
         let same : q.edge ≡ last.edge = cell-edge old s m.apart.1 last.seat.cell q last.edge there.0 last.seat.has in
         let to : joined (below s e.rank) last.edge.u x ≡ true = (IsSame-joined (below s e.rank)).back x last.edge.u
-            (joined_below-more s (suc last.edge.rank) e.rank x last.edge.u (omega arith) (joined-to_end s last.edge x there.0 there.1)) in
+        (joined_below-more s (suc last.edge.rank) e.rank x last.edge.u (omega arith) (joined-to_end s last.edge x there.0 there.1)) in
         subst (λ (g : ListedEdge). next (e ∷ s) g.u (suc g.rank) ≡ Some e) (sym same)
         (next-opens e s m.apart last.edge.u (suc last.edge.rank) (omega arith)
         (subst (λ (o : Option ListedEdge). IsBefore o e.rank) (next-behind s m.apart.1 x last.edge there.0 there.1) last.last)
@@ -205,18 +207,22 @@ opening old new e s first second id m = record {
             | inr p ↦ at-last e.v out-second second m.second_last j p o.before o.is q
           ]) in
               record {
-                edge = q.edge; joins = joins'; rank = o.rank ∙ q.rank;
+                edge = q.edge;
+                joins = joins';
+                rank = o.rank ∙ q.rank;
                 up = subst (λ (u : Option ℕ). Points new u (next (e ∷ s) q.edge.u (suc q.edge.rank))) (sym put.0) (subst (λ (w : Option ListedEdge). Points new (Some id) w) (sym comes) seat);
               })
           | inr same ↦ record {
-              edge = q.edge; joins = joins'; rank = o.rank ∙ q.rank;
-              up = subst (λ (u : Option ℕ). Points new u (next (e ∷ s) q.edge.u (suc q.edge.rank))) (sym same.0)
-                  (points-kept old new ranks o.before.up (next (e ∷ s) q.edge.u (suc q.edge.rank))
-                  (subst (λ (w : Option ListedEdge). Points old o.before.up w)
-                  (sym (passes e s m.apart q.edge.u (suc q.edge.rank) (omega arith)
-                  (λ before. (cell-away j o.before o.is q (omega arith) e.u first m.first_last same.1.0 before, cell-away j o.before o.is q (omega arith) e.v second m.second_last same.1.1 before))))
-                  q.up));
-            }
+            edge = q.edge;
+            joins = joins';
+            rank = o.rank ∙ q.rank;
+            up = subst (λ (u : Option ℕ). Points new u (next (e ∷ s) q.edge.u (suc q.edge.rank))) (sym same.0)
+                (points-kept old new ranks o.before.up (next (e ∷ s) q.edge.u (suc q.edge.rank))
+                (subst (λ (w : Option ListedEdge). Points old o.before.up w)
+                (sym (passes e s m.apart q.edge.u (suc q.edge.rank) (omega arith)
+                (λ before. (cell-away j o.before o.is q (omega arith) e.u first m.first_last same.1.0 before, cell-away j o.before o.is q (omega arith) e.v second m.second_last same.1.1 before))))
+                q.up));
+          }
         ]
       where
         at-last : (x : ℕ) → leaves s x e ≡ true → (o : Option ℕ) → IsLast old s x e.rank o → (k : ℕ) → o ≡ Some k → (b : Cell) → cell_at old k ≡ Some b → (q : IsCellOf old s b) →
@@ -227,7 +233,7 @@ opening old new e s first second id m = record {
             let cells' : b ≡ l.seat.cell = cc in
             let q' : IsCellOf old s l.seat.cell = subst (λ (y : Cell). IsCellOf old s y) cells' q in
             let same : q'.edge ≡ q.edge = apart-one s m.apart.1 q'.edge q.edge (IsIn-joins_kept s q'.edge q'.joins).0 (IsIn-joins_kept s q.edge q.joins).0
-                (sym q'.rank ∙ sym (ap (λ (y : Cell). y.rank) cells') ∙ q.rank) in
+            (sym q'.rank ∙ sym (ap (λ (y : Cell). y.rank) cells') ∙ q.rank) in
             subst (λ (g : ListedEdge). next (e ∷ s) g.u (suc g.rank) ≡ Some e) same (opens x out k l q')
 
     high : (j : ℕ) (c : Cell) → cell_at new j ≡ Some c → e.rank < c.rank → IsCellOf new s c
@@ -242,7 +248,9 @@ opening old new e s first second id m = record {
           ])
           | inr same ↦ (let q = m.links.cells j o.before o.is in
               record {
-                edge = q.edge; joins = q.joins; rank = o.rank ∙ q.rank;
+                edge = q.edge;
+                joins = q.joins;
+                rank = o.rank ∙ q.rank;
                 up = subst (λ (u : Option ℕ). Points new u (next s q.edge.u (suc q.edge.rank))) (sym same.0)
                     (points-kept old new ranks o.before.up (next s q.edge.u (suc q.edge.rank)) q.up);
               })

@@ -80,7 +80,11 @@ links-differs p q eq = record {
 
 pub links-back : (p q : CellPool) → SameLinks p q → SameLinks q p
 links-back p q s = record {
-  cells = λ i. sym (s.cells i); leafs = λ x. sym (s.leafs x); turns = λ i. sym (s.turns i); covered = s.still_covered; still_covered = s.covered;
+  cells = λ i. sym (s.cells i);
+  leafs = λ x. sym (s.leafs x);
+  turns = λ i. sym (s.turns i);
+  covered = s.still_covered;
+  still_covered = s.covered;
 }
 
 pub met-same : (p q : CellPool) → SameLinks p q → (d : ℕ) (o : Option ℕ) (j : ℕ) → IsMet p d o j → IsMet q d o j
@@ -117,8 +121,12 @@ met-rises pool l k (suc d) i c is low (Some a) up j m =
 -- a note that leads up in one pool does in the other
 pub note-same : (p q : CellPool) → SameLinks p q → (l i : ℕ) (h : Hint) → IsNote p l i h → IsNote q l i h
 note-same p q s l i h n = record {
-  cell = n.cell; is = s.cells i ∙ n.is; from = n.from; links = n.links;
-  met = met-same p q s n.links n.cell.up h.cell n.met; turn = n.turn ∙ sym (s.turns h.cell);
+  cell = n.cell;
+  is = s.cells i ∙ n.is;
+  from = n.from;
+  links = n.links;
+  met = met-same p q s n.links n.cell.up h.cell n.met;
+  turn = n.turn ∙ sym (s.turns h.cell);
 }
 
 pub note-lower : (p : CellPool) (l k i : ℕ) (h : Hint) → k ≤ l → IsNote p l i h → IsNote p k i h
@@ -153,8 +161,11 @@ noted-climbable p q l k n =
       ups = λ i j c is low up. (let m = k.ups i j c (sym (s.cells i) ∙ is) low up in (m.0, (s.cells j ∙ m.1.0, m.1.1)));
       hints = λ i c h is low eq v. elim (n.each i h eq) [
         | inl old ↦ (let m = k.hints i c h (sym (s.cells i) ∙ is) low old (live-same q p (links-back p q s) h v) in (m.0, met-same p q s m.0 c.up h.cell m.1))
-        | inr made ↦ (made.links, met-same p q s made.links c.up h.cell
-            (subst (λ (y : Cell). IsMet p made.links y.up h.cell) (one-cell p i made.cell c made.is (sym (s.cells i) ∙ is)) made.met))
+        | inr made ↦ (
+          made.links,
+          met-same p q s made.links c.up h.cell
+              (subst (λ (y : Cell). IsMet p made.links y.up h.cell) (one-cell p i made.cell c made.is (sym (s.cells i) ∙ is)) made.met),
+        )
       ];
     }
 
@@ -176,17 +187,21 @@ sound-noted p q l s n =
       ups = λ i j c is up. (let m = s.ups i j c (sym (same.cells i) ∙ is) up in (m.0, (same.cells j ∙ m.1.0, m.1.1)));
       hints = λ i c h is eq v. elim (n.each i h eq) [
         | inl old ↦ (let m = s.hints i c h (sym (same.cells i) ∙ is) old (live-same q p back h v) in (m.0, met-same p q same m.0 c.up h.cell m.1))
-        | inr made ↦ (made.links, met-same p q same made.links c.up h.cell
-            (subst (λ (y : Cell). IsMet p made.links y.up h.cell) (one-cell p i made.cell c made.is (sym (same.cells i) ∙ is)) made.met))
+        | inr made ↦ (
+          made.links,
+          met-same p q same made.links c.up h.cell
+              (subst (λ (y : Cell). IsMet p made.links y.up h.cell) (one-cell p i made.cell c made.is (sym (same.cells i) ∙ is)) made.met),
+        )
       ];
       fingers = λ x h cov eq v. (let m = s.fingers x h (same.covered x cov) (finger x h eq) (live-same q p back h v) in
           (m.0, subst (λ (o : Option ℕ). IsMet q m.0 o h.cell) (sym (same.leafs x)) (met-same p q same m.0 (leaf_of p x) h.cell m.1)));
       old = record {
-        hints = λ i h eq. elim (n.each i h eq) [
-          | inl old ↦ subst (λ (t : ℕ). h.turn ≤ t) (sym (same.turns h.cell)) (s.old.hints i h old)
+        hints = λ i h eq fresh. elim (n.each i h eq) [
+          | inl old ↦ subst (λ (t : ℕ). h.turn ≤ t) (sym (same.turns h.cell)) (s.old.hints i h old fresh)
           | inr made ↦ (let t : turn_of q h.cell ≡ turn_of p h.cell = same.turns h.cell in let u : h.turn ≡ turn_of p h.cell = made.turn in omega arith)
         ];
-        fingers = λ x h eq. subst (λ (t : ℕ). h.turn ≤ t) (sym (same.turns h.cell)) (s.old.fingers x h (finger x h eq));
+        fingers = λ x h eq fresh. subst (λ (t : ℕ). h.turn ≤ t) (sym (same.turns h.cell)) (s.old.fingers x h (finger x h eq) fresh);
+        turned = λ i c is. subst (λ (t : ℕ). 1 ≤ t) (sym (same.turns i)) (s.old.turned i c (sym (same.cells i) ∙ is));
       };
     }
   where
@@ -214,10 +229,11 @@ sound-fingered p q place h s low eq d met turn = subst IsSound (sym eq) put
           ];
           old = record {
             hints = s.old.hints;
-            fingers = λ x k at. elim (entry-cases p.first p.fingers place (Some h) x k low at) [
+            fingers = λ x k at fresh. elim (entry-cases p.first p.fingers place (Some h) x k low at) [
               | inl here ↦ subst (λ (g : Hint). g.turn ≤ turn_of p g.cell) (one here.1) (omega arith)
-              | inr old ↦ s.old.fingers x k old.1
+              | inr old ↦ s.old.fingers x k old.1 fresh
             ];
+            turned = s.old.turned;
           };
         }
       where

@@ -84,8 +84,16 @@ merging-same : (p q : CellPool) → SameLinks p q → (e : ListedEdge) (s : Edge
 merging-same p q same e s t first second m =
     let keeps : KeepsRanks p q = rank-same p q same in
     record {
-      edge = m.edge; seat = rank-same p q same t m.edge.rank m.seat; joins = m.joins; apart = m.apart; above = m.above; a = m.a; b = m.b; ends = m.ends;
-      unjoined = m.unjoined; at_end = m.at_end;
+      edge = m.edge;
+      seat = rank-same p q same t m.edge.rank m.seat;
+      joins = m.joins;
+      apart = m.apart;
+      above = m.above;
+      a = m.a;
+      b = m.b;
+      ends = m.ends;
+      unjoined = m.unjoined;
+      at_end = m.at_end;
       first_link = points-kept p q keeps first (next s m.a (suc m.edge.rank)) m.first_link;
       second_link = points-kept p q keeps second (next s m.b (suc m.edge.rank)) m.second_link;
       leafs = λ x cov. subst (λ (o : Option ℕ). Points q o (next (e ∷ s) x 0)) (sym (same.leafs x)) (points-kept p q keeps (leaf_of p x) (next (e ∷ s) x 0) (m.leafs x (same.covered x cov)));
@@ -112,11 +120,12 @@ seam-noted p q e s t first second m l above n =
         ];
         fingers = λ x h cov eq v. m.noted.fingers x h (same.covered x cov) (finger x h eq) (live-same q p back h v);
         old = record {
-          hints = λ i h eq. elim (n.each i h eq) [
-            | inl old ↦ subst (λ (k : ℕ). h.turn ≤ k) (sym (same.turns h.cell)) (m.noted.old.hints i h old)
+          hints = λ i h eq fresh. elim (n.each i h eq) [
+            | inl old ↦ subst (λ (k : ℕ). h.turn ≤ k) (sym (same.turns h.cell)) (m.noted.old.hints i h old fresh)
             | inr made ↦ (let a : turn_of q h.cell ≡ turn_of p h.cell = same.turns h.cell in let b : h.turn ≡ turn_of p h.cell = made.turn in omega arith)
           ];
-          fingers = λ x h eq. subst (λ (k : ℕ). h.turn ≤ k) (sym (same.turns h.cell)) (m.noted.old.fingers x h (finger x h eq));
+          fingers = λ x h eq fresh. subst (λ (k : ℕ). h.turn ≤ k) (sym (same.turns h.cell)) (m.noted.old.fingers x h (finger x h eq) fresh);
+          turned = λ i c is. subst (λ (k : ℕ). 1 ≤ k) (sym (same.turns i)) (m.noted.old.turned i c (sym (same.cells i) ∙ is));
         };
       };
     }
@@ -141,8 +150,9 @@ noted-fewer p q same s n = record {
   fingers = λ x h cov eq v. (let live = before h v in let f = n.fingers x h (same.covered x cov) (sym (same.fingers x) ∙ eq) live.0 in
       (f.0, (f.1.0, sym live.1 ∙ f.1.1)));
   old = record {
-    hints = λ i h eq. subst (λ (k : ℕ). h.turn ≤ k) (sym (same.turns h.cell)) (n.old.hints i h (sym (same.hints i) ∙ eq));
-    fingers = λ x h eq. subst (λ (k : ℕ). h.turn ≤ k) (sym (same.turns h.cell)) (n.old.fingers x h (sym (same.fingers x) ∙ eq));
+    hints = λ i h eq fresh. subst (λ (k : ℕ). h.turn ≤ k) (sym (same.turns h.cell)) (n.old.hints i h (sym (same.hints i) ∙ eq) fresh);
+    fingers = λ x h eq fresh. subst (λ (k : ℕ). h.turn ≤ k) (sym (same.turns h.cell)) (n.old.fingers x h (sym (same.fingers x) ∙ eq) fresh);
+    turned = λ i c is. (let own = same.ranks i c is in subst (λ (k : ℕ). 1 ≤ k) (sym (same.turns i)) (n.old.turned i own.cell own.is));
   };
 }
   where

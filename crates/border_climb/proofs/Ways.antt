@@ -17,9 +17,12 @@ pub named-found : (pool : CellPool) (mark : Option Hint) (h : Hint) (c : Cell) �
 named-found pool mark h c is found fresh =
     elim (cases_Bool (turn_of pool h.cell == h.turn)) [
       | inl same ↦ record {
-          hint = h; is = is; id = refl; rank = refl;
-          live = record { cell = c; is = subst (λ (b : Bool). cond b (cell_at pool h.cell) None ≡ Some c) same found; turn = eqb-true (turn_of pool h.cell) h.turn same; fresh = fresh };
-        }
+        hint = h;
+        is = is;
+        id = refl;
+        rank = refl;
+        live = record { cell = c; is = subst (λ (b : Bool). cond b (cell_at pool h.cell) None ≡ Some c) same found; turn = eqb-true (turn_of pool h.cell) h.turn same; fresh = fresh };
+      }
       | inr other ↦ absurd (never (subst (λ (b : Bool). cond b (cell_at pool h.cell) None ≡ Some c) other found))
     ]
   where

@@ -14,12 +14,12 @@ use Rattle.border_climb.specs.declared.climbing.Met.{Met}
 use Rattle.border_climb.specs.declared.given.Given.TheVariants as answers
 use Rattle.border_climb.specs.Linked.{HasRank, Points}
 use Rattle.border_climb.specs.Notes.{IsNoted}
-use Rattle.border_climb.specs.Splicing.{IsMerging, KeepsLeafs, IsRelinked, IsDropped, IsSeam, IsMerged, rank_of}
+use Rattle.border_climb.specs.Splicing.{IsMerging, KeepsLeafs, IsRelinked, IsDropped, IsSeam, IsMerged, KeepsRange, rank_of}
 use Rattle.border_climb.specs.Climbs.{IsClimbed, with_up}
 use Rattle.border_climb.proofs.Linked.{chain-met}
 use Rattle.border_climb.proofs.Merging.{relinked-cases, relinked-ranks, merging-turned, run-along}
 use Rattle.border_climb.proofs.Closing.{apart-merging, close-single, close-both}
-use Rattle.border_climb.proofs.Pools.{links-noted, links-back, one-cell, seat-rank, used-covered}
+use Rattle.border_climb.proofs.Pools.{links-noted, links-back, met-same, one-cell, seat-rank, used-covered}
 use Rattle.border_climb.proofs.Seams.{SameNotes, seam-next, seam-linked, seam-noted, noted-fewer}
 
 -- another number has what it had
@@ -30,14 +30,17 @@ entry-other first xs id y j low other =
       | inr below ↦ rw below refl
     ]
 
-relinked-with : (p : CellPool) (id : ℕ) (up : Option ℕ) (c : Cell) → cell_at p id ≡ Some c → IsRelinked p (with_up p 0 (Some id) up) id up
+pub relinked-with : (p : CellPool) (id : ℕ) (up : Option ℕ) (c : Cell) → cell_at p id ≡ Some c → IsRelinked p (with_up p 0 (Some id) up) id up
 relinked-with p id up c is =
     let cov = used-covered p id c is in
     let y : Option Cell = Some (record { rank = option_map_or (λ b. b.rank) (cell_at p id) 0; up = up }) in
     record {
       kept = record {
-        covered = λ x h. (h.0, (let long : length (set p.cells (id - p.first) (Some (record { rank = option_map_or (λ b. b.rank) (cell_at p id) 0; up = up }))) ≡ length p.cells = length-set p.cells (id - p.first) (Some (record { rank = option_map_or (λ b. b.rank) (cell_at p id) 0; up = up })) in
-            let top : x < p.first + length (set p.cells (id - p.first) (Some (record { rank = option_map_or (λ b. b.rank) (cell_at p id) 0; up = up }))) = h.1 in omega arith));
+        covered = λ x h. (
+          h.0,
+          (let long : length (set p.cells (id - p.first) (Some (record { rank = option_map_or (λ b. b.rank) (cell_at p id) 0; up = up }))) ≡ length p.cells = length-set p.cells (id - p.first) (Some (record { rank = option_map_or (λ b. b.rank) (cell_at p id) 0; up = up })) in
+              let top : x < p.first + length (set p.cells (id - p.first) (Some (record { rank = option_map_or (λ b. b.rank) (cell_at p id) 0; up = up }))) = h.1 in omega arith),
+        );
         leafs = λ x. refl;
       };
       at = λ b eq. entry-set_same p.first p.cells id (Some (record { rank = option_map_or (λ c. c.rank) (cell_at p id) 0; up = up })) cov.0 cov.1
@@ -68,8 +71,11 @@ dropped-with p id c is =
     let cov = used-covered p id c is in
     record {
       kept = record {
-        covered = λ x h. (h.0, (let long : length (set p.cells (id - p.first) None) ≡ length p.cells = length-set p.cells (id - p.first) None in
-            let top : x < p.first + length (set p.cells (id - p.first) None) = h.1 in omega arith));
+        covered = λ x h. (
+          h.0,
+          (let long : length (set p.cells (id - p.first) None) ≡ length p.cells = length-set p.cells (id - p.first) None in
+              let top : x < p.first + length (set p.cells (id - p.first) None) = h.1 in omega arith),
+        );
         leafs = λ x. refl;
       };
       at = entry-set_same p.first p.cells id None cov.0 cov.1;
@@ -98,13 +104,13 @@ notes-dropped p q id c is eq =
     none b h = cc
 
 -- one step of the merge, as the code does it
-pub record IsAdvance (old mid new : CellPool) (t : ℕ) (low high next : Met) (c : Cell) : Type 0 where
+pub record IsAdvance (old mid new : CellPool) (t : ℕ) (low high top : Met) (c : Cell) : Type 0 where
   pub low_seat : HasRank old low.id low.rank
   pub high_seat : HasRank old high.id high.rank
   pub lower : low.rank < high.rank
-  pub climbed : IsClimbed old low high.rank next
+  pub climbed : IsClimbed old low high.rank top
   pub noted : IsNoted old mid low.rank
-  pub is : cell_at mid next.id ≡ Some c
+  pub is : cell_at mid top.id ≡ Some c
   pub written : new ≡ with_up mid 0 (Some t) (Some low.id)
 
 -- what comes next on the other chain comes after a rank below the higher cell's
@@ -115,27 +121,29 @@ before-high pool id r (Some f) p n h lt =
     let has : h.cell.rank ≡ r = h.has in
     omega arith
 
-pub advanced : (old mid new : CellPool) (t : ℕ) (low high next : Met) (c : Cell) → IsAdvance old mid new t low high next c → (e : ListedEdge) (s : EdgeList) → IsSeam old e s t (Some low.id) (Some high.id) →
-    IsSeam new e s next.id c.up (Some high.id)
-advanced old mid new t low high next c k e s m =
+pub advanced : (old mid new : CellPool) (t : ℕ) (low high top : Met) (c : Cell) → IsAdvance old mid new t low high top c → (e : ListedEdge) (s : EdgeList) → IsSeam old e s t (Some low.id) (Some high.id) →
+    IsSeam new e s top.id c.up (Some high.id)
+advanced old mid new t low high top c k e s m =
     let n = seam-next old e s t low.id (Some high.id) m.merging k.low_seat.cell k.low_seat.is in
     let above : m.merging.edge.rank < k.low_seat.cell.rank = n.1.2 in
     let low_is : k.low_seat.cell.rank ≡ low.rank = k.low_seat.has in
     let same = links-noted old mid low.rank k.noted in
     let held : IsSeam mid e s t (Some low.id) (Some high.id) = seam-noted old mid e s t (Some low.id) (Some high.id) m low.rank (omega arith) k.noted in
-    let f = chain-met old s m.merging.apart.1 (suc m.merging.edge.rank) (seam-linked old e s t (Some low.id) (Some high.id) m.merging) k.climbed.reached.links m.merging.a (suc m.merging.edge.rank)
-        (Some low.id) (next s m.merging.a (suc m.merging.edge.rank)) (omega arith) refl m.merging.first_link next.id k.climbed.reached.met k.climbed.reached.seat.cell k.climbed.reached.seat.is in
-    let from : suc m.merging.edge.rank ≤ f.0.rank = f.1.1.0 in
+    let there : cell_at mid top.id ≡ Some k.climbed.reached.seat.cell = same.cells top.id ∙ k.climbed.reached.seat.is in
+    let f = chain-met mid s held.merging.apart.1 (suc held.merging.edge.rank) (seam-linked mid e s t (Some low.id) (Some high.id) held.merging) k.climbed.reached.links held.merging.a (suc held.merging.edge.rank)
+    (Some low.id) (next s held.merging.a (suc held.merging.edge.rank)) (omega arith) refl held.merging.first_link top.id
+    (met-same old mid same k.climbed.reached.links (Some low.id) top.id k.climbed.reached.met) k.climbed.reached.seat.cell there in
+    let from : suc held.merging.edge.rank ≤ f.0.rank = f.1.1.0 in
     let level : k.climbed.reached.seat.cell.rank ≡ f.0.rank = f.1.1.1 in
-    let has : k.climbed.reached.seat.cell.rank ≡ next.rank = k.climbed.reached.seat.has in
-    let less : next.rank < high.rank = k.climbed.low in
-    let one : c ≡ k.climbed.reached.seat.cell = one-cell old next.id c k.climbed.reached.seat.cell (sym (same.cells next.id) ∙ k.is) k.climbed.reached.seat.is in
+    let has : k.climbed.reached.seat.cell.rank ≡ top.rank = k.climbed.reached.seat.has in
+    let less : top.rank < high.rank = k.climbed.low in
+    let one : c ≡ k.climbed.reached.seat.cell = one-cell mid top.id c k.climbed.reached.seat.cell k.is there in
     let c_level : c.rank ≡ f.0.rank = ap (λ (y : Cell). y.rank) one ∙ f.1.1.1 in
-    let seat : cell_at mid t ≡ Some held.merging.seat.cell = held.merging.seat.is in
+    let high_there : HasRank mid high.id high.rank = record { cell = k.high_seat.cell; is = same.cells high.id ∙ k.high_seat.is; has = k.high_seat.has } in
     record {
       merging = run-along mid new e s t low.id (Some high.id) held.merging (relinked-written mid new t (Some low.id) held.merging.seat.cell held.merging.seat.is k.written)
-          f.0 f.1.0 from (before-high old high.id high.rank (next s m.merging.b (suc m.merging.edge.rank)) m.merging.second_link f.0.rank k.high_seat (omega arith))
-          next.id c k.is c_level;
+          f.0 f.1.0 from (before-high mid high.id high.rank (next s held.merging.b (suc held.merging.edge.rank)) held.merging.second_link f.0.rank high_there (omega arith))
+          top.id c k.is c_level;
       noted = noted-fewer mid new (notes-relinked mid new t (Some low.id) held.merging.seat.cell held.merging.seat.is k.written) s held.noted;
     }
 
@@ -143,19 +151,19 @@ advanced old mid new t low high next c k e s m =
 pub seat-rank_of : (pool : CellPool) (id r : ℕ) → HasRank pool id r → rank_of pool id ≡ r
 seat-rank_of pool id r h = ap (λ (o : Option Cell). option_map_or (λ c. c.rank) o 0) h.is ∙ h.has
 
-pub advanced-rises : (old mid new : CellPool) (t : ℕ) (low high next : Met) (c : Cell) → IsAdvance old mid new t low high next c → (e : ListedEdge) (s : EdgeList) → IsSeam old e s t (Some low.id) (Some high.id) →
-    (rank_of old t < rank_of new next.id) × (rank_of new next.id ≡ next.rank)
-advanced-rises old mid new t low high next c k e s m =
+pub advanced-rises : (old mid new : CellPool) (t : ℕ) (low high top : Met) (c : Cell) → IsAdvance old mid new t low high top c → (e : ListedEdge) (s : EdgeList) → IsSeam old e s t (Some low.id) (Some high.id) →
+    (rank_of old t < rank_of new top.id) × (rank_of new top.id ≡ top.rank)
+advanced-rises old mid new t low high top c k e s m =
     let n = seam-next old e s t low.id (Some high.id) m.merging k.low_seat.cell k.low_seat.is in
     let above : m.merging.edge.rank < k.low_seat.cell.rank = n.1.2 in
     let low_is : k.low_seat.cell.rank ≡ low.rank = k.low_seat.has in
-    let from : low.rank ≤ next.rank = k.climbed.reached.from in
+    let from : low.rank ≤ top.rank = k.climbed.reached.from in
     let at : rank_of old t ≡ m.merging.edge.rank = seat-rank_of old t m.merging.edge.rank m.merging.seat in
     let same = links-noted old mid low.rank k.noted in
     let held = seam-noted old mid e s t (Some low.id) (Some high.id) m low.rank (omega arith) k.noted in
-    let there : HasRank mid next.id next.rank = record { cell = k.climbed.reached.seat.cell; is = same.cells next.id ∙ k.climbed.reached.seat.is; has = k.climbed.reached.seat.has } in
-    let to : rank_of new next.id ≡ next.rank = seat-rank_of new next.id next.rank
-        (relinked-ranks mid new t (Some low.id) (relinked-written mid new t (Some low.id) held.merging.seat.cell held.merging.seat.is k.written) next.id next.rank there) in
+    let there : HasRank mid top.id top.rank = record { cell = k.climbed.reached.seat.cell; is = same.cells top.id ∙ k.climbed.reached.seat.is; has = k.climbed.reached.seat.has } in
+    let to : rank_of new top.id ≡ top.rank = seat-rank_of new top.id top.rank
+    (relinked-ranks mid new t (Some low.id) (relinked-written mid new t (Some low.id) held.merging.seat.cell held.merging.seat.is k.written) top.id top.rank there) in
     (omega arith, to)
 
 -- the chains come to one cell
@@ -185,3 +193,10 @@ finished old new e s t first m eq =
 
 pub seam-turned : (pool : CellPool) (e : ListedEdge) (s : EdgeList) (t : ℕ) (first second : Option ℕ) → IsSeam pool e s t first second → IsSeam pool e s t second first
 seam-turned pool e s t first second m = record { merging = merging-turned pool e s t first second m.merging; noted = m.noted }
+
+-- the same, where the links are told by other names
+pub seam-at : (pool : CellPool) (e : ListedEdge) (s : EdgeList) (t : ℕ) (f g h k : Option ℕ) → IsSeam pool e s t f g → f ≡ h → g ≡ k → IsSeam pool e s t h k
+seam-at pool e s t f g h k m p q = subst (λ (o : Option ℕ). IsSeam pool e s t o k) p (subst (λ (o : Option ℕ). IsSeam pool e s t f o) q m)
+
+pub range-on : (p q w : CellPool) → KeepsRange p q → KeepsRange q w → KeepsRange p w
+range-on p q w a b = record { first = b.first ∙ a.first; count = b.count ∙ a.count; chunks = b.chunks ∙ a.chunks; room = b.room ∙ a.room }

@@ -3,3 +3,5 @@ pub mod Linked
 pub mod Notes
 pub mod Splicing
 pub mod Climbs
+pub mod Parts
+pub mod PartFields

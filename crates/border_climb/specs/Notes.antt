@@ -13,10 +13,11 @@ pub record IsLive (pool : CellPool) (h : Hint) : Type 0 where
   pub turn : turn_of pool h.cell ≡ h.turn
   pub fresh : h.turn < 2 ^ 32 - 1
 
--- no note is of a turn that its number hasn't had
+-- no note is of a turn that its number hasn't had, and a number with a cell was taken
 pub record AreOld (pool : CellPool) : Type 0 where
-  pub hints : (i : ℕ) (h : Hint) → hint_of pool i ≡ Some h → h.turn ≤ turn_of pool h.cell
-  pub fingers : (x : ℕ) (h : Hint) → finger_of pool x ≡ Some h → h.turn ≤ turn_of pool h.cell
+  pub hints : (i : ℕ) (h : Hint) → hint_of pool i ≡ Some h → h.turn < 2 ^ 32 - 1 → h.turn ≤ turn_of pool h.cell
+  pub fingers : (x : ℕ) (h : Hint) → finger_of pool x ≡ Some h → h.turn < 2 ^ 32 - 1 → h.turn ≤ turn_of pool h.cell
+  pub turned : (i : ℕ) (c : Cell) → cell_at pool i ≡ Some c → 1 ≤ turn_of pool i
 
 -- What a part's links and notes keep to: links rise in rank, and what is noted and still there is met further up.
 pub record IsSound (pool : CellPool) : Type 0 where

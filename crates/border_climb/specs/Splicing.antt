@@ -1,12 +1,12 @@
 -- The states of a splice: the new edge's cell is put in, and the two chains above it are merged.
-use Rattle.std.specs.Prelude.{◌≡◌, ◌↔◌, ℕ, suc, ◌<◌, ◌≤◌, ◌⊎◌, ◌||◌, true, false, ◌∷◌, Option, Some, None}
+use Rattle.std.specs.Prelude.{◌≡◌, ◌≢◌, ◌↔◌, ℕ, suc, ◌<◌, ◌≤◌, ◌⊎◌, ◌||◌, true, false, ◌∷◌, Option, Some, None, IfSome}
 use Rattle.std.specs.Option.{option_map_or}
 use Rattle.hg_base.specs.Edges.{ListedEdge, EdgeList, IsIn, AreEnds, AreApart, Joined, joined, below, joins, chain, next}
 use Rattle.hg_base.specs.Splice.{ComesAfter, IsRedundant}
 use Rattle.hg_base.specs.Saliency.{MeetFirst}
-use Rattle.node_region.specs.Pool.{CellPool, count, IsCovered, cell_at, leaf_of}
+use Rattle.node_region.specs.Pool.{CellPool, IsPool, count, IsCovered, IsUsed, cell_at, leaf_of}
 use Rattle.node_region.specs.declared.cell.Cell.{Cell}
-use Rattle.border_climb.specs.Linked.{HasRank, Points, IsCellOf, AreLinked}
+use Rattle.border_climb.specs.Linked.{HasRank, Points, IsCellOf, AreLinked, AreBetween}
 use Rattle.border_climb.specs.Notes.{AreNoted}
 use Rattle.border_climb.specs.declared.given.Given.{Given}
 use Rattle.border_climb.specs.declared.given.Given.TheVariants as answers
@@ -120,3 +120,27 @@ pub record IsMerged (pool : CellPool) (e : ListedEdge) (s : EdgeList) (answer : 
 
 abbrev pub EndsIn : CellPool → ℕ → Option ℕ → Option ℕ → CellPool → Given → Type 0
 EndsIn old t first second new answer = (e : ListedEdge) (s : EdgeList) → IsSeam old e s t first second → IsMerged new e s answer
+
+-- the links are those of the list, whose edges are between the pool's places and have other ranks
+pub record IsLinkedList (pool : CellPool) (s : EdgeList) (rank : ℕ) : Type 0 where
+  pub between : AreBetween pool s
+  pub links : AreLinked pool s
+  pub fresh : (f : ListedEdge) → IsIn f s → f.rank ≢ rank
+
+-- the links are those of the list with e, and the answer tells what it did
+pub record IsSpliced (pool : CellPool) (e : ListedEdge) (s : EdgeList) (answer : Given) : Type 0 where
+  pub links : AreLinked pool (e ∷ s)
+  pub told : Tells e s answer
+
+-- the links are those of some list
+abbrev pub SomeList : CellPool → ℕ → Type 0
+SomeList pool rank = (s : EdgeList) × IsLinkedList pool s rank
+
+-- a free number, and what is needed to put a new cell above two chains
+pub record CanOpen (pool : CellPool) (a b : ℕ) (first second : Option ℕ) (id : ℕ) : Type 0 where
+  pub pool_is : IsPool pool
+  pub a_covered : IsCovered pool a
+  pub b_covered : IsCovered pool b
+  pub first_used : IfSome first (IsUsed pool)
+  pub second_used : IfSome second (IsUsed pool)
+  pub free : IsIn id pool.free

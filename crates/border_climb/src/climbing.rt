@@ -26,7 +26,11 @@ fn below(region: &Region, link: Option<u32>, r: u32) -> Option<Met>
 {
     let id = link?;
     let rank = region.get(id).rank;
-    if rank < r { Some(Met { id, rank }) } else { None }
+    if rank < r {
+        Some(Met { id, rank })
+    } else {
+        None
+    }
 }
 
 // The cell that a note means, if it is still there.
@@ -38,7 +42,10 @@ fn noted(region: &Region, note: Option<Hint>) -> Option<Met>
         return None;
     }
     let rank = region.find(hint)?.rank;
-    Some(Met { id: hint.cell, rank })
+    Some(Met {
+        id: hint.cell,
+        rank,
+    })
 }
 
 // The next cell of rank below r on the way up: the noted one, or the one above.

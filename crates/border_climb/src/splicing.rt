@@ -1,11 +1,15 @@
-ghost use Rattle.std.specs.Prelude.{◌≡◌, ◌≢◌, ℕ, ◌<◌, ◌^◌, ◌⊎◌, Some, None, IfSome};
+ghost use Rattle.std.specs.Prelude.{◌≡◌, ◌≢◌, ℕ, ◌<◌, ◌^◌, ◌⊎◌, Some, None, IfSome, IsTrue};
+ghost use Rattle.hg_base.specs.Edges.{ListedEdge, EdgeList};
+ghost use Rattle.hg_base.specs.Placed.{placed};
 ghost use Rattle.node_region.specs.Pool.{IsCovered, IsUsed};
 ghost use Rattle.border_climb.specs.Linked.{HasRank};
-ghost use Rattle.border_climb.specs.Splicing.{up_of, rank_of, KeepsRange, SomeSeam, StepsTo, EndsIn};
-ghost use Rattle.border_climb.specs.Climbs.{with_up};
+ghost use Rattle.border_climb.specs.Notes.{IsSound};
+ghost use Rattle.border_climb.specs.Splicing.{up_of, rank_of, KeepsRange, SomeSeam, StepsTo, EndsIn, IsLinkedList, SomeList, CanOpen, IsSpliced};
+ghost use Rattle.border_climb.specs.Climbs.{with_up, opened_pool};
 
-use crate::climbing::{Met, climb};
+use crate::climbing::{Met, climb, last_below};
 use crate::given::Given;
+use hg_base::PlacedEdge;
 use node_region::{Cell, Region};
 
 /// Where two chains are merged: the last cell that was linked, and what comes next on either chain.
@@ -137,4 +141,67 @@ fn merge(region: &mut Region, seam: Seam) -> Given
         seam = step(region, seam.last, first, second);
     }
     finish(region, seam)
+}
+
+// Whether both are one cell.
+fn are_one(first: Option<u32>, second: Option<u32>) -> bool
+    ensures one { IsTrue result → (id : ℕ) × ((first ≡ Some id) × (second ≡ Some id)) }
+    ensures never { (id : ℕ) → first ≡ Some id → second ≡ Some id → IsTrue result }
+{
+    match (first, second) {
+        (Some(one), Some(other)) => one == other,
+        _ => false,
+    }
+}
+
+// Takes a free number for a new cell of the edge's rank, and puts it above the last cells below it on both chains.
+fn open(region: &mut Region, e: PlacedEdge, first: Option<u32>, second: Option<u32>) -> Seam
+    requires a { IsCovered region.old e.a }
+    requires b { IsCovered region.old e.b }
+    requires first { IfSome first (IsUsed region.old) }
+    requires second { IfSome second (IsUsed region.old) }
+    requires list { SomeList region.old e.rank }
+    ensures opened { region.new ≡ opened_pool region.old e.a e.b first second result.last e.rank }
+    ensures can { CanOpen region.old e.a e.b first second result.last }
+    ensures first { result.first ≡ up_of region.old e.a first }
+    ensures second { result.second ≡ up_of region.old e.b second }
+{
+    let _ = region.count();
+    let above_first = up(region, e.a, first);
+    let above_second = up(region, e.b, second);
+    let cell = Cell {
+        rank: e.rank,
+        up: None,
+    };
+    let Some(id) = region.take(cell) else {
+        unreachable!()
+    };
+    set_up(region, e.a, first, Some(id));
+    set_up(region, e.b, second, Some(id));
+    Seam {
+        last: id,
+        first: above_first,
+        second: above_second,
+    }
+}
+
+// Splices an edge into the chains.
+pub(crate) fn splice(region: &mut Region, e: PlacedEdge) -> Given
+    requires a { IsCovered region.old e.a }
+    requires b { IsCovered region.old e.b }
+    requires two { e.a ≢ e.b }
+    requires sound { IsSound region.old }
+    requires list { SomeList region.old e.rank }
+    ensures spliced { (f : ListedEdge) (s : EdgeList) → placed f ≡ e → IsLinkedList region.old s e.rank → IsSpliced region.new f s result }
+    ensures sound { IsSound region.new }
+    ensures range { KeepsRange region.old region.new }
+    ensures small { e.rank < 2 ^ 32 }
+{
+    let first = last_below(region, e.a, e.rank);
+    let second = last_below(region, e.b, e.rank);
+    if are_one(first, second) {
+        return Given::Redundant;
+    }
+    let seam = open(region, e, first, second);
+    merge(region, seam)
 }

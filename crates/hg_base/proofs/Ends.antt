@@ -104,11 +104,15 @@ or-turned false false h = h
 
 merging-ends : (e : ListedEdge) (s : EdgeList) (a b k : ℕ) → AreEnds e a b → Apart e s a b k → (x : ℕ) → (joined (below s k) x a || joined (below s k) x b) ≡ true → Merging e s x k
 merging-ends e s a b k (inl p) m x at_end = record {
-  apart = m.apart; above = m.above; unjoined = ends-apart e a b m.ends (below s k) m.unjoined;
+  apart = m.apart;
+  above = m.above;
+  unjoined = ends-apart e a b m.ends (below s k) m.unjoined;
   at_end = rw (p.0, p.1) at_end;
 }
 merging-ends e s a b k (inr p) m x at_end = record {
-  apart = m.apart; above = m.above; unjoined = ends-apart e a b m.ends (below s k) m.unjoined;
+  apart = m.apart;
+  above = m.above;
+  unjoined = ends-apart e a b m.ends (below s k) m.unjoined;
   at_end = rw (p.0, p.1) (or-turned (joined (below s k) x a) (joined (below s k) x b) at_end);
 }
 

@@ -17,7 +17,7 @@ ahead-requires-clause-skip c =
     let inv = c.loop-next.invariant in
     let same = links-noted c.args.region.now c.loop-next.region c.args.start.rank inv.noted in
     let climbable : IsClimbable c.loop-next.region c.loop-next.here.rank = climbable-higher _ c.args.start.rank _ inv.reached.from
-        (noted-climbable c.args.region.now c.loop-next.region c.args.start.rank c.requires.climbable inv.noted) in
+    (noted-climbable c.args.region.now c.loop-next.region c.args.start.rank c.requires.climbable inv.noted) in
     some-map _ _ c.noted-skip.result (λ next n. further-noted c.loop-next.region c.loop-next.here climbable
     (rank-same _ _ same _ _ inv.reached.seat) c.hint.result c.hint.ensures next n) c.noted-skip.ensures
 

@@ -9,13 +9,13 @@ climb-next-requires-clause-climbable c =
     seam-climbable _ w.0 w.1.0 c.args.last c.args.low.id _ w.1.1 c.args.low.rank c.requires.low
 
 pub returns-clause-steps : goal.returns-clause-steps
-returns-clause-steps c = λ e s m. advanced c.args.region.now c.climb-next.new.region c.link.new.region c.args.last c.args.low c.args.high c.climb-next.result c.get.result
-    (record { low_seat = c.requires.low; high_seat = c.requires.high; lower = c.requires.lower; climbed = c.climb-next.ensures.climbed; noted = c.climb-next.ensures.noted; is = c.get.ensures; written = c.link.ensures })
+returns-clause-steps c = λ e s m. advanced c.args.region.now c.climb-next.new.region c.link.new.region c.args.last c.args.low c.args.high c.climb-next.result c.get-first.result
+    (record { low_seat = c.requires.low; high_seat = c.requires.high; lower = c.requires.lower; climbed = c.climb-next.ensures.climbed; noted = c.climb-next.ensures.noted; is = c.get-first.ensures; written = c.link.ensures })
     e s m
 
 pub returns-clause-rises : goal.returns-clause-rises
 returns-clause-rises c =
     let w = c.requires.seam in
-    (advanced-rises c.args.region.now c.climb-next.new.region c.link.new.region c.args.last c.args.low c.args.high c.climb-next.result c.get.result
-    (record { low_seat = c.requires.low; high_seat = c.requires.high; lower = c.requires.lower; climbed = c.climb-next.ensures.climbed; noted = c.climb-next.ensures.noted; is = c.get.ensures; written = c.link.ensures })
+    (advanced-rises c.args.region.now c.climb-next.new.region c.link.new.region c.args.last c.args.low c.args.high c.climb-next.result c.get-first.result
+    (record { low_seat = c.requires.low; high_seat = c.requires.high; lower = c.requires.lower; climbed = c.climb-next.ensures.climbed; noted = c.climb-next.ensures.noted; is = c.get-first.ensures; written = c.link.ensures })
     w.0 w.1.0 w.1.1).0

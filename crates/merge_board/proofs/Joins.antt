@@ -4,14 +4,15 @@ use Rattle.hg_base.specs.Edges.{ListedEdge, EdgeList, IsIn, AreApart}
 use Rattle.hg_base.specs.Placed.{placed}
 use Rattle.node_region.specs.Pool.{count, IsCovered, IsNextTo}
 use Rattle.border_climb.specs.Stands.{PartState, Stands}
-use Rattle.border_climb.specs.Standin.{IsLotFor, IsBorder, IsFreshPart}
+use Rattle.border_climb.specs.Parts.{IsLot, CanJoin, listed}
+use Rattle.hg_base.specs.declared.graph.PlacedEdge.{PlacedEdge}
 use Rattle.tile_plan.specs.Plan.{TilePlan, IsPlan, IsPlaceOf, tile_count, part_count, root, mother, left, right, first_place, end_place, first_tile, tiles_of, post, lot_edges, edges_at, room_tiles, room_places, start}
 use Rattle.tile_plan.specs.Laws.{HasHalves, JoinsHalves, IsSomewhere, IsTile, HasEdges, Crosses}
 use Rattle.tile_plan.proofs.Mothers.{has_halves}
 use Rattle.tile_plan.proofs.Ranges.{is_somewhere, is_tile}
 use Rattle.tile_plan.proofs.Edges.{joins_halves, crosses, has_edges}
 use Rattle.hg_base.specs.declared.graph.Room.{Room}
-use Rattle.hg_base.proofs.Components.{IsIn-append}
+use Rattle.hg_base.proofs.Components.{IsIn-append, IsIn-append_back}
 use Rattle.std.proofs.lemmas.List.{length-append}
 use Rattle.tile_plan.specs.Merges.{MergeTree, Tile, Merge, tiles, merges}
 use Rattle.tile_plan.specs.Sites.{post_order, left_site, right_site}
@@ -42,15 +43,37 @@ opens p i part h = h
 pub covers : (p : TilePlan) (i : ℕ) (part : PartState) (x : ℕ) → IsShapedFor p i part → IsPlaceOf p i x → IsCovered part.region x
 covers p i part x s h = let a = s.first in let b = s.places in let c = h.0 in let d = h.1 in (omega arith, omega arith)
 
+-- an edge of a list of placed edges is the picture of one
+pub in_placed : (s : EdgeList) (e : PlacedEdge) → IsIn e (map placed s) → (f : ListedEdge) × (IsIn f s × (placed f ≡ e))
+in_placed [] e h = absurd h
+in_placed (f ∷ s) e (inl same) = (f, (inl refl, same))
+in_placed (f ∷ s) e (inr later) = let r = in_placed s e later in (r.0, (inr r.1.0, r.1.1))
+
+-- placed edges have the ranks of those that they are pictures of
+in_listed : (b : EdgeList) (f : ListedEdge) → IsIn f (map listed (map placed b)) → (g : ListedEdge) × (IsIn g b × (g.rank ≡ f.rank))
+in_listed [] f h = absurd h
+in_listed (e ∷ b) f (inl same) = (e, (inl refl, ap (λ (x : ListedEdge). x.rank) same))
+in_listed (e ∷ b) f (inr later) = let r = in_listed b f later in (r.0, (inr r.1.0, r.1.1))
+
+apart_listed : (b : EdgeList) → AreApart b → AreApart (map listed (map placed b))
+apart_listed [] a = tt
+apart_listed (e ∷ b) a = ((λ f h same. (let g = in_listed b f h in a.0 g.0 g.1.0 (same ∙ sym g.1.1))), apart_listed b a.1)
+
+apart_after : (x b : EdgeList) → AreApart (x ++ b) → AreApart (x ++ map listed (map placed b))
+apart_after [] b a = apart_listed b a
+apart_after (e ∷ x) b a = ((λ f h same. by f same (IsIn-append_back f x (map listed (map placed b)) h)), apart_after x b a.1)
+  where
+    by : (f : ListedEdge) → e.rank ≡ f.rank → IsIn f x ⊎ IsIn f (map listed (map placed b)) → ⊥
+    by f same (inl i) = a.0 f (IsIn-append f x b (inl i)) same
+    by f same (inr j) = let g = in_listed b f j in a.0 g.0 (IsIn-append g.0 x b (inr g.1.0)) (same ∙ sym g.1.1)
+
 -- the lot of a tile is one that its opened part can be built from
-pub lot_fits : (p : TilePlan) (t : ℕ) (part : PartState) → IsPlan p → t < tile_count p → Opened p t part → IsLotFor part (lot_edges p t) (map placed (lot_edges p t))
+pub lot_fits : (p : TilePlan) (t : ℕ) (part : PartState) → IsPlan p → t < tile_count p → Opened p t part → IsLot part.region (map placed (lot_edges p t))
 lot_fits p t part h low o = record {
-  same = refl;
-  first_ends = λ e at. covers p t part e.u (opened p t part o).shape (edges.first_ends e (in_all e at));
-  second_ends = λ e at. covers p t part e.v (opened p t part o).shape (edges.second_ends e (in_all e at));
-  two_ends = λ e at. (edges.among e (in_all e at)).apart;
-  apart = subst (λ (s : EdgeList). AreApart s) tile.edges edges.apart;
-  small = λ e at. (let r = (edges.among e (in_all e at)).rank in omega arith)
+  a = λ e at. (let f = in_placed (lot_edges p t) e at in subst (λ (q : PlacedEdge). IsCovered part.region q.a) f.1.1 (covers p t part f.0.u (opened p t part o).shape (edges.first_ends f.0 (in_all f.0 f.1.0))));
+  b = λ e at. (let f = in_placed (lot_edges p t) e at in subst (λ (q : PlacedEdge). IsCovered part.region q.b) f.1.1 (covers p t part f.0.v (opened p t part o).shape (edges.second_ends f.0 (in_all f.0 f.1.0))));
+  two = λ e at. (let f = in_placed (lot_edges p t) e at in subst (λ (q : PlacedEdge). q.a ≢ q.b) f.1.1 (edges.among f.0 (in_all f.0 f.1.0)).apart);
+  apart = apart_listed (lot_edges p t) (subst (λ (s : EdgeList). AreApart s) tile.edges edges.apart)
 }
   where
     edges : HasEdges p t
@@ -90,18 +113,13 @@ module _ (p : TilePlan) (m : ℕ) (a b : PartState) (plan : IsPlan p) (low : til
   edges : HasEdges p m
   edges = has_edges p m plan high
 
-  in_all : (e : ListedEdge) → IsIn e (lot_edges p m) → IsIn e (edges_at p m)
-  in_all e at = subst (λ (s : EdgeList). IsIn e s) (sym joins.edges) (IsIn-append e (edges_at p (left p m) ++ edges_at p (right p m)) (lot_edges p m) (inr at))
-
   -- the border of a merge is one that the two halves can be joined by
-  pub border_fits : IsBorder a b (edges_at p (left p m)) (edges_at p (right p m)) (lot_edges p m) (map placed (lot_edges p m))
+  pub border_fits : CanJoin a b (map placed (lot_edges p m)) (edges_at p (left p m)) (edges_at p (right p m))
   border_fits = record {
-    same = refl;
-    left_ = fa.stands;
-    right_ = fb.stands;
-    apart = subst (λ (s : EdgeList). AreApart s) joins.edges edges.apart;
-    small = λ e at. (let r = (edges.among e (in_all e at)).rank in omega arith);
-    crossing = λ e at. cross e (crosses p m e plan low high at)
+    left_stands = fa.stands;
+    right_stands = fb.stands;
+    crosses = λ e at. (let f = in_placed (lot_edges p m) e at in subst (λ (q : PlacedEdge). (IsCovered a.region q.a × IsCovered b.region q.b) ⊎ (IsCovered a.region q.b × IsCovered b.region q.a)) f.1.1 (cross f.0 (crosses p m f.0 plan low high f.1.0)));
+    apart = apart_after (edges_at p (left p m) ++ edges_at p (right p m)) (lot_edges p m) (subst (λ (s : EdgeList). AreApart s) joins.edges edges.apart)
   }
     where
       cross : (e : ListedEdge) → Crosses p m e → (IsCovered a.region e.u × IsCovered b.region e.v) ⊎ (IsCovered a.region e.v × IsCovered b.region e.u)

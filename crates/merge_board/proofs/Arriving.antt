@@ -71,13 +71,13 @@ module _ (p : TilePlan) (workers id i : ℕ) (v : View) (y : PartState) (s : Boa
     slots = l;
     order = o;
     shares = (let t = total_set (λ x. x.share) s.views id v u shows in let q = board.shares in omega arith);
-    draws = (let t = total_set missed_share s.views id v u shows in let q = board.draws in let d = same_draws in omega arith)
+    draws = (let t = total_set missed_share s.views id v u shows in let q = board.draws in let d = same_draws in omega arith);
   }
 
   pub first_kept : n ≡ 0 → IsBoard p workers (after (slice_set hs i (some (Some y))) (idle v n))
   first_kept z = kept (slice_set hs i (some (Some y))) (idle v n) (length-set hs i (some (Some y)) ∙ long) refl refl
       (first_arrives p workers (slice_index s.words) (slice_index (slice_set s.words (door p i) ((n + weight p i) % 2 ^ 64))) (get_elem? hs) (get_elem? (slice_set hs i (some (Some y)))) (get_elem? s.views) (get_elem? (slice_set s.views id (idle v n)))
-        board.plan order id i n v y shows hand z (record { here = words.here ∙ (omega arith); others = words.others }) (changed_list hs i (some (Some y)) (let l = long in let a = part in omega arith)) (changed_list s.views id (idle v n) there) fits)
+      board.plan order id i n v y shows hand z (record { here = words.here ∙ (omega arith); others = words.others }) (changed_list hs i (some (Some y)) (let l = long in let a = part in omega arith)) (changed_list s.views id (idle v n) there) fits)
 
   pub inner : n ≢ 0 → i ≢ root p
   inner some_ e = some_ (second.root_zero p workers (slice_index s.words) (get_elem? hs) (get_elem? s.views) board.plan order id i v shows hand e)
@@ -100,14 +100,15 @@ module _ (p : TilePlan) (workers id i : ℕ) (v : View) (y : PartState) (s : Boa
   second_kept some_ = kept (slice_set (slice_set hs (sibling p i) none) (mother p i) none) (with_merge v (mother p i) n)
       (length-set (slice_set hs (sibling p i) none) (mother p i) none ∙ long') refl refl
       (second.second_arrives p workers (slice_index s.words) (slice_index (slice_set s.words (door p i) ((n + weight p i) % 2 ^ 64))) (get_elem? hs) (get_elem? (slice_set hs (sibling p i) none)) (get_elem? (slice_set (slice_set hs (sibling p i) none) (mother p i) none))
-        (get_elem? s.views) (get_elem? (slice_set s.views id (with_merge v (mother p i) n))) board.plan order id i n v shows hand (inner some_) some_
-        (record { here = words.here ∙ three; others = words.others })
-        (changed_list hs (sibling p i) none (let a = sibling_part p board.plan i part (inner some_) in let l = long in omega arith))
-        (changed_list (slice_set hs (sibling p i) none) (mother p i) none (let a = mother_inner p board.plan i part (inner some_) in let l = long' in omega arith))
-        (changed_list s.views id (with_merge v (mother p i) n) there))
+      (get_elem? s.views) (get_elem? (slice_set s.views id (with_merge v (mother p i) n))) board.plan order id i n v shows hand (inner some_) some_
+      (record { here = words.here ∙ three; others = words.others })
+      (changed_list hs (sibling p i) none (let a = sibling_part p board.plan i part (inner some_) in let l = long in omega arith))
+      (changed_list (slice_set hs (sibling p i) none) (mother p i) none (let a = mother_inner p board.plan i part (inner some_) in let l = long' in omega arith))
+      (changed_list s.views id (with_merge v (mother p i) n) there))
     where
       long' : length (slice_set hs (sibling p i) none) ≡ part_count p
       long' = length-set hs (sibling p i) none ∙ long
+
       three : n + weight p i ≡ 3
       three = let a = found_weight some_ in let b = sibling_weight p board.plan i part (inner some_) in omega arith
 
@@ -127,10 +128,19 @@ module _ (p : TilePlan) (workers id slots i : ℕ) (v : View) (y : PartState) (h
   told_second held m z some_ inner_ weighs fits_z = told held m (with_merge v (mother p i) m) ((mother p i, None) ∷ (sibling p i, Some z) ∷ (i, last_of held) ∷ []) (record {
     root_zero = λ e. absurd (inner_ (e ∙ ap (λ (q : TilePlan). root q) known));
     waits = λ zero_. absurd (some_ zero_);
-    both = λ ne. (subst (λ (q : TilePlan). m ≡ weight q (sibling q i)) (sym known) weighs,
-      (ap (λ (q : TilePlan). with_merge v (mother q i) m) (sym known),
-      (z, (subst (λ (q : TilePlan). Fits q (sibling q i) z) (sym known) fits_z,
-      ap (λ (q : TilePlan). (mother q i, None) ∷ (sibling q i, Some z) ∷ (i, last_of held) ∷ []) (sym known)))))
+    both = λ ne. (
+      subst (λ (q : TilePlan). m ≡ weight q (sibling q i)) (sym known) weighs,
+      (
+        ap (λ (q : TilePlan). with_merge v (mother q i) m) (sym known),
+        (
+          z,
+          (
+            subst (λ (q : TilePlan). Fits q (sibling q i) z) (sym known) fits_z,
+            ap (λ (q : TilePlan). (mother q i, None) ∷ (sibling q i, Some z) ∷ (i, last_of held) ∷ []) (sym known),
+          ),
+        ),
+      ),
+    );
   })
 
   pub may_arrive : (below : List (ℕ × Option PartState)) → AreBelow p i below → Asked (below ++ (i, Some y) ∷ [])
@@ -139,10 +149,13 @@ module _ (p : TilePlan) (workers id slots i : ℕ) (v : View) (y : PartState) (h
       by : (slice_index s.words (door p i) ≡ 0) ⊎ (slice_index s.words (door p i) ≢ 0) → (u : View) × (a : Act (Option PartState)) × Valid s.homes ((i, Some y) ∷ []) a
           × IsBoard p workers (stepped s (door p i) ((slice_index s.words (door p i) + weight p i) % 2 ^ 64) id ((i, Some y) ∷ []) u a) × Arrives (v, (i, Some y) ∷ []) (slice_index s.words (door p i)) (u, carried_after ((i, Some y) ∷ []) a)
       by (inl z) = (idle v (slice_index s.words (door p i)), gives, tt, first_kept p workers id i v y s s.homes b b.order b.slots shows hand fits z, told_first ((i, Some y) ∷ []) (slice_index s.words (door p i)) z)
-      by (inr some_) = (with_merge v (mother p i) (slice_index s.words (door p i)), chain (takes (sibling p i) (Some sib.0)) (takes (mother p i) None),
-          (sib.1.0, mother_slot p workers id i v y s s.homes b b.order b.slots shows hand fits some_),
-          second_kept p workers id i v y s s.homes b b.order b.slots shows hand fits some_,
-          told_second ((i, Some y) ∷ []) (slice_index s.words (door p i)) sib.0 some_ (inner p workers id i v y s s.homes b b.order b.slots shows hand fits some_) (found_weight p workers id i v y s s.homes b b.order b.slots shows hand fits some_) sib.1.1)
+      by (inr some_) = (
+        with_merge v (mother p i) (slice_index s.words (door p i)),
+        chain (takes (sibling p i) (Some sib.0)) (takes (mother p i) None),
+        (sib.1.0, mother_slot p workers id i v y s s.homes b b.order b.slots shows hand fits some_),
+        second_kept p workers id i v y s s.homes b b.order b.slots shows hand fits some_,
+        told_second ((i, Some y) ∷ []) (slice_index s.words (door p i)) sib.0 some_ (inner p workers id i v y s s.homes b b.order b.slots shows hand fits some_) (found_weight p workers id i v y s s.homes b b.order b.slots shows hand fits some_) sib.1.1,
+      )
         where
           sib : (z : PartState) × (Keeps (get_elem? s.homes) (sibling p i) z × Fits p (sibling p i) z)
           sib = sibling_slot p workers id i v y s s.homes b b.order b.slots shows hand fits some_
@@ -151,30 +164,38 @@ module _ (p : TilePlan) (workers id slots i : ℕ) (v : View) (y : PartState) (h
     where
       hs_long : length (slice_set (slice_set s.homes x.0 (some x.1)) x'.0 (some x'.1)) ≡ part_count p
       hs_long = length-set (slice_set s.homes x.0 (some x.1)) x'.0 (some x'.1) ∙ length-set s.homes x.0 (some x.1) ∙ b.slots
+
       formed : IsFormed p (slice_index s.words) i
       formed = (b.order.in_hand id i v shows hand).1.0
+
       word_three : slice_index s.words (word_of p i) ≡ 3
       word_three = of_formed formed
         where
           of_formed : IsFormed p (slice_index s.words) i → slice_index s.words (word_of p i) ≡ 3
           of_formed (inl f) = absurd (let low = halves.0 in let a = f.0 in omega arith)
           of_formed (inr f) = f.1
+
       spent : (a : ℕ) → mother p a ≡ i → IsSpent p (slice_index s.words) a
       spent a e = ap (λ (m : ℕ). slice_index s.words (word_of p m)) e ∙ word_three
+
       order : IsInOrder p workers (slice_index s.words) (get_elem? (slice_set (slice_set s.homes x.0 (some x.1)) x'.0 (some x'.1))) (get_elem? s.views)
       order = spent_slot p workers (slice_index s.words) (get_elem? (slice_set s.homes x.0 (some x.1))) (get_elem? (slice_set (slice_set s.homes x.0 (some x.1)) x'.0 (some x'.1))) (get_elem? s.views) b.plan
           (spent_slot p workers (slice_index s.words) (get_elem? s.homes) (get_elem? (slice_set s.homes x.0 (some x.1))) (get_elem? s.views) b.plan b.order x.0 (some (some x.1)) halves.1.first (spent x.0 halves.1.first_mother)
-            (changed_list s.homes x.0 (some x.1) (let l = b.slots in let q = halves.1.first in omega arith)))
+          (changed_list s.homes x.0 (some x.1) (let l = b.slots in let q = halves.1.first in omega arith)))
           x'.0 (some (some x'.1)) halves.1.second (spent x'.0 halves.1.second_mother)
           (changed_list (slice_set s.homes x.0 (some x.1)) x'.0 (some x'.1) (let l = length-set s.homes x.0 (some x.1) ∙ b.slots in let q = halves.1.second in omega arith))
+
       by : (slice_index s.words (door p i) ≡ 0) ⊎ (slice_index s.words (door p i) ≢ 0) → (u : View) × (a : Act (Option PartState)) × Valid s.homes (x ∷ x' ∷ (i, Some y) ∷ []) a
           × IsBoard p workers (stepped s (door p i) ((slice_index s.words (door p i) + weight p i) % 2 ^ 64) id (x ∷ x' ∷ (i, Some y) ∷ []) u a) × Arrives (v, x ∷ x' ∷ (i, Some y) ∷ []) (slice_index s.words (door p i)) (u, carried_after (x ∷ x' ∷ (i, Some y) ∷ []) a)
       by (inl z) = (idle v (slice_index s.words (door p i)), chain gives (chain gives gives), (tt, (tt, tt)), first_kept p workers id i v y s (slice_set (slice_set s.homes x.0 (some x.1)) x'.0 (some x'.1)) b order hs_long shows hand fits z, told_first (x ∷ x' ∷ (i, Some y) ∷ []) (slice_index s.words (door p i)) z)
-      by (inr some_) = (with_merge v (mother p i) (slice_index s.words (door p i)), chain gives (chain gives (chain (takes (sibling p i) (Some sib.0)) (takes (mother p i) None))),
-          (tt, (tt, (sib.1.0, mother_slot p workers id i v y s (slice_set (slice_set s.homes x.0 (some x.1)) x'.0 (some x'.1)) b order hs_long shows hand fits some_))),
-          second_kept p workers id i v y s (slice_set (slice_set s.homes x.0 (some x.1)) x'.0 (some x'.1)) b order hs_long shows hand fits some_,
-          told_second (x ∷ x' ∷ (i, Some y) ∷ []) (slice_index s.words (door p i)) sib.0 some_ (inner p workers id i v y s (slice_set (slice_set s.homes x.0 (some x.1)) x'.0 (some x'.1)) b order hs_long shows hand fits some_)
-            (found_weight p workers id i v y s (slice_set (slice_set s.homes x.0 (some x.1)) x'.0 (some x'.1)) b order hs_long shows hand fits some_) sib.1.1)
+      by (inr some_) = (
+        with_merge v (mother p i) (slice_index s.words (door p i)),
+        chain gives (chain gives (chain (takes (sibling p i) (Some sib.0)) (takes (mother p i) None))),
+        (tt, (tt, (sib.1.0, mother_slot p workers id i v y s (slice_set (slice_set s.homes x.0 (some x.1)) x'.0 (some x'.1)) b order hs_long shows hand fits some_))),
+        second_kept p workers id i v y s (slice_set (slice_set s.homes x.0 (some x.1)) x'.0 (some x'.1)) b order hs_long shows hand fits some_,
+        told_second (x ∷ x' ∷ (i, Some y) ∷ []) (slice_index s.words (door p i)) sib.0 some_ (inner p workers id i v y s (slice_set (slice_set s.homes x.0 (some x.1)) x'.0 (some x'.1)) b order hs_long shows hand fits some_)
+            (found_weight p workers id i v y s (slice_set (slice_set s.homes x.0 (some x.1)) x'.0 (some x'.1)) b order hs_long shows hand fits some_) sib.1.1,
+      )
         where
           sib : (z : PartState) × (Keeps (get_elem? (slice_set (slice_set s.homes x.0 (some x.1)) x'.0 (some x'.1))) (sibling p i) z × Fits p (sibling p i) z)
           sib = sibling_slot p workers id i v y s (slice_set (slice_set s.homes x.0 (some x.1)) x'.0 (some x'.1)) b order hs_long shows hand fits some_

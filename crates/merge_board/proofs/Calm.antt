@@ -56,7 +56,7 @@ calm_views p workers w slots views views' order old kept = record {
   ];
   tiles = order.tiles;
   merges = order.merges;
-  homes = order.homes
+  homes = order.homes;
 }
   where
     both : (k l i : ℕ) (a b : View) → Shows views k a ⊎ IsCalm p workers w a → Shows views l b ⊎ IsCalm p workers w b → a.hand ≡ Some i → b.hand ≡ Some i → k ≡ l
@@ -80,24 +80,30 @@ more_draws p workers w w' slots views plan order all words = record {
   seen = λ k u s. (let m = order.seen k u s in ((let d = words.here in let b = m.0 in omega arith), m.1));
   tiles = λ t low high. absurd (let d = words.here in omega arith);
   merges = λ m low h ne. order.merges m low h (λ e. ne (word_at m low ∙ e));
-  homes = λ j h home. order.homes j h (sym (same_at j h) ∙ home)
+  homes = λ j h home. order.homes j h (sym (same_at j h) ∙ home);
 }
   where
     same_at : (j : ℕ) → IsPart p j → w' (door p j) ≡ w (door p j)
     same_at j h = words.others (door p j) (let s = door_some p plan j h in λ e. omega arith)
+
     word_at : (m : ℕ) → tile_count p ≤ m → w' (word_of p m) ≡ w (word_of p m)
     word_at m low = words.others (word_of p m) (λ e. omega arith)
+
     root_range : w' (door p (root p)) ≤ 1
     root_range = let t = some_plan p plan in let a = same_at (root p) (omega arith) in let b = order.root_range in omega arith
+
     formed_on : (j : ℕ) → IsFormed p w j → IsFormed p w' j
     formed_on j (inl t) = inl (t.0, (let d = words.here in let b = t.1 in omega arith))
     formed_on j (inr m) = inr (m.0, word_at j m.0 ∙ m.1)
+
     formed_back : (j : ℕ) → IsFormed p w' j → IsFormed p w j
     formed_back j (inl t) = inl (t.0, (let b = t.0 in omega arith))
     formed_back j (inr m) = inr (m.0, sym (word_at j m.0) ∙ m.1)
+
     arrived_back : (j : ℕ) → IsPart p j → HasArrived p w' j → HasArrived p w j
     arrived_back j h (inl home) = inl (sym (same_at j h) ∙ home)
     arrived_back j h (inr spent) = inr (sym (same_at j h) ∙ spent)
+
     arrived_on : (j : ℕ) → IsPart p j → HasArrived p w j → HasArrived p w' j
     arrived_on j h (inl home) = inl (same_at j h ∙ home)
     arrived_on j h (inr spent) = inr (same_at j h ∙ spent)
@@ -118,22 +124,25 @@ spent_slot p workers w slots slots' views plan order i x h spent slot = record {
   seen = order.seen;
   tiles = λ t low high. (let was = order.tiles t low high in (was.0, (slot.others t (λ e. unborn_tile t low high e) ∙ was.1.0, was.1.1)));
   merges = λ m low at ne. slot.others m (λ e. unborn_merge m low ne e) ∙ order.merges m low at ne;
-  homes = λ j at home. (let was = order.homes j at home in (was.0, (slot.others j (λ e. away j at home e) ∙ was.1.0, was.1.1)))
+  homes = λ j at home. (let was = order.homes j at home in (was.0, (slot.others j (λ e. away j at home e) ∙ was.1.0, was.1.1)));
 }
   where
     is_formed : IsFormed p w i
     is_formed = order.formed i h (inr spent)
+
     unborn_tile : (t : ℕ) → t < tile_count p → w 0 ≤ t → t ≡ i → ⊥
     unborn_tile t low high e = by is_formed
       where
         by : IsFormed p w i → ⊥
         by (inl f) = let a = f.1 in omega arith
         by (inr f) = let a = f.0 in omega arith
+
     unborn_merge : (m : ℕ) → tile_count p ≤ m → w (word_of p m) ≢ 3 → m ≡ i → ⊥
     unborn_merge m low ne e = by is_formed
       where
         by : IsFormed p w i → ⊥
         by (inl f) = let a = f.0 in omega arith
         by (inr f) = ne (ap (λ (x : ℕ). w (word_of p x)) e ∙ f.1)
+
     away : (j : ℕ) → IsPart p j → IsAtHome p w j → j ≡ i → ⊥
     away j at home e = let a : w (door p i) ≡ 3 = spent in let b : w (door p i) ≡ weight p i = subst (λ (x : ℕ). w (door p x) ≡ weight p x) e home in let c = weight_two p plan i h in omega arith

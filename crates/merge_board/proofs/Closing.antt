@@ -35,9 +35,9 @@ module _ (p : TilePlan) (workers : ℕ) (s : State (Option PartState) View) (boa
   is_away i = elim (cases_eq (slice_index s.words (door p i)) (weight p i)) [
     | inl home ↦ inl (inl home)
     | inr ne ↦ elim (cases_eq (slice_index s.words (door p i)) 3) [
-        | inl spent ↦ inl (inr spent)
-        | inr ne' ↦ inr (neither ne ne')
-      ]
+      | inl spent ↦ inl (inr spent)
+      | inr ne' ↦ inr (neither ne ne')
+    ]
   ]
     where
       neither : slice_index s.words (door p i) ≢ weight p i → slice_index s.words (door p i) ≢ 3 → HasArrived p (slice_index s.words) i → ⊥
@@ -56,10 +56,13 @@ module _ (p : TilePlan) (workers : ℕ) (s : State (Option PartState) View) (boa
     where
       halves : HasHalves p m
       halves = has_halves p m board.plan low h
+
       at_left : slice_index s.words (door p (left p m)) ≡ slice_index s.words (word_of p m)
       at_left = ap (λ (x : ℕ). slice_index s.words (word_of p x)) halves.left_mother
+
       at_right : slice_index s.words (door p (right p m)) ≡ slice_index s.words (word_of p m)
       at_right = ap (λ (x : ℕ). slice_index s.words (word_of p x)) halves.right_mother
+
       by : HasArrived p (slice_index s.words) (left p m) → HasArrived p (slice_index s.words) (right p m) → slice_index s.words (word_of p m) ≡ 3
       by (inr spent) z = sym at_left ∙ spent
       by (inl home) (inr spent) = sym at_right ∙ spent
@@ -75,12 +78,16 @@ module _ (p : TilePlan) (workers : ℕ) (s : State (Option PartState) View) (boa
     where
       halves : tile_count p ≤ i → HasHalves p i
       halves merge = has_halves p i board.plan merge h
+
       low_left : tile_count p ≤ i → left p i < n
       low_left merge = let a = (halves merge).left_below in omega arith
+
       low_right : tile_count p ≤ i → right p i < n
       low_right merge = let a = (halves merge).right_below in omega arith
+
       part_left : tile_count p ≤ i → IsPart p (left p i)
       part_left merge = let a = (halves merge).left_below in omega arith
+
       part_right : tile_count p ≤ i → IsPart p (right p i)
       part_right merge = let a = (halves merge).right_below in omega arith
 

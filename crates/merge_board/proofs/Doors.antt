@@ -64,13 +64,14 @@ module _ (p : TilePlan) (plan : IsPlan p) where
   one_part i j a b e w = elim (cases_eq i (root p)) [
     | inl same ↦ same ∙ sym (door_of_root j b (subst (λ (k : ℕ). door p k ≡ door p j) same e))
     | inr ne ↦ elim (cases_eq (weight p i) 1) [
-        | inl one ↦ sym (mi.left_half ne one) ∙ ap (λ (m : ℕ). left p m) (same_mother i j a b e) ∙ mj.left_half (inner_with i j a b e ne) (sym w ∙ one)
-        | inr other ↦ let two : weight p i ≡ 2 = let s = mi.some in let t = mi.two in omega arith in sym (mi.right_half ne two) ∙ ap (λ (m : ℕ). right p m) (same_mother i j a b e) ∙ mj.right_half (inner_with i j a b e ne) (sym w ∙ two)
-      ]
+      | inl one ↦ sym (mi.left_half ne one) ∙ ap (λ (m : ℕ). left p m) (same_mother i j a b e) ∙ mj.left_half (inner_with i j a b e ne) (sym w ∙ one)
+      | inr other ↦ let two : weight p i ≡ 2 = let s = mi.some in let t = mi.two in omega arith in sym (mi.right_half ne two) ∙ ap (λ (m : ℕ). right p m) (same_mother i j a b e) ∙ mj.right_half (inner_with i j a b e ne) (sym w ∙ two)
+    ]
   ]
     where
       mi : HasMother p i
       mi = has_mother p i plan a
+
       mj : HasMother p j
       mj = has_mother p j plan b
 

@@ -15,7 +15,6 @@ use Rattle.merge_board.proofs.Changes.{IsChange, shown, still_shown, one_view, n
 module _ (p : TilePlan) (workers : ℕ) (w w' : Words) (slots slots' : Slots) (views views' : Views) (plan : IsPlan p) (order : IsInOrder p workers w slots views)
     (id : ℕ) (v : View) (shows : Shows views id v) (hand : v.hand ≡ None) (fresh : v.missed ≡ false) (share : 1 ≤ v.share) (more : w 0 < tile_count p)
     (words : IsChange w w' 0 (w 0 + 1)) (slot : IsChange slots slots' (w 0) (some none)) (view : IsChange views views' id (some (drawn v (w 0)))) where
-
   same_at : (j : ℕ) → IsPart p j → w' (door p j) ≡ w (door p j)
   same_at j h = words.others (door p j) (let s = door_some p plan j h in λ e. omega arith)
 
@@ -59,6 +58,7 @@ module _ (p : TilePlan) (workers : ℕ) (w w' : Words) (slots slots' : Slots) (v
     where
       drawn_now : IsInHand p w' (w 0)
       drawn_now = (inl (more, (let d = words.here in omega arith)), λ a. unborn (order.formed (w 0) tile_part (arrived_back (w 0) tile_part a)))
+
       by : ((k ≡ id) × (drawn v (w 0) ≡ u)) ⊎ ((k ≢ id) × Shows views k u) → IsPart p j × IsInHand p w' j
       by (inl t) = subst (λ (x : ℕ). IsPart p x × IsInHand p w' x) (tile_hand u j t.1 h) (tile_part, drawn_now)
       by (inr t) = let at = order.in_hand k j u t.1 h in (at.0, (formed_on j at.1.0, λ a. at.1.1 (arrived_back j at.0 a)))
@@ -80,6 +80,7 @@ module _ (p : TilePlan) (workers : ℕ) (w w' : Words) (slots slots' : Slots) (v
     where
       never : (m : ℕ) (c : View) → Shows views m c → c.hand ≡ Some j → w 0 ≡ j → ⊥
       never m c q r e = unborn (subst (λ (x : ℕ). IsFormed p w x) (sym e) (order.in_hand m j c q r).1.0)
+
       by : ((k ≡ id) × (drawn v (w 0) ≡ a)) ⊎ ((k ≢ id) × Shows views k a) → ((l ≡ id) × (drawn v (w 0) ≡ b)) ⊎ ((l ≢ id) × Shows views l b) → k ≡ l
       by (inl x) (inl z) = x.0 ∙ sym z.0
       by (inl x) (inr z) = absurd (never l b z.1 h (tile_hand a j x.1 g))
@@ -111,8 +112,8 @@ module _ (p : TilePlan) (workers : ℕ) (w w' : Words) (slots slots' : Slots) (v
       | inr t ↦ (let m = order.seen k u t.1 in ((let d = words.here in let b = m.0 in omega arith), m.1))
     ];
     tiles = λ t low high. (let was = order.tiles t low (let d = words.here in omega arith) in
-      (was.0, (slot.others t (let d = words.here in λ e. omega arith) ∙ was.1.0, was.1.1)));
+        (was.0, (slot.others t (let d = words.here in λ e. omega arith) ∙ was.1.0, was.1.1)));
     merges = λ m low h ne. slot.others m (λ e. omega arith) ∙ order.merges m low h (λ e. ne (word_at m low ∙ e));
     homes = λ j h home. (let was_home : IsAtHome p w j = sym (same_at j h) ∙ home in let was = order.homes j h was_home in
-      (was.0, (slot.others j (λ e. unborn (subst (λ (x : ℕ). IsFormed p w x) e (order.formed j h (inl was_home)))) ∙ was.1.0, was.1.1)))
+        (was.0, (slot.others j (λ e. unborn (subst (λ (x : ℕ). IsFormed p w x) e (order.formed j h (inl was_home)))) ∙ was.1.0, was.1.1)));
   }

@@ -16,7 +16,6 @@ use Rattle.merge_board.proofs.Changes.{IsChange, shown, still_shown, one_view, n
 module _ (p : TilePlan) (workers : ℕ) (w w' : Words) (slots slots' : Slots) (views views' : Views) (plan : IsPlan p) (order : IsInOrder p workers w slots views)
     (id i n : ℕ) (v : View) (y : PartState) (shows : Shows views id v) (hand : v.hand ≡ Some i) (zero_word : w (door p i) ≡ 0)
     (words : IsChange w w' (door p i) (weight p i)) (slot : IsChange slots slots' i (some (some (Some y)))) (view : IsChange views views' id (some (idle v n))) where
-
   is_part : IsPart p i
   is_part = (order.in_hand id i v shows hand).0
 
@@ -70,6 +69,7 @@ module _ (p : TilePlan) (workers : ℕ) (w w' : Words) (slots slots' : Slots) (v
       none_yet : door p j ≡ door p i → HasArrived p w j → ⊥
       none_yet e (inl home) = let a = was_zero j e in let b : w (door p j) ≡ weight p j = home in let s = weight_some p plan j h in omega arith
       none_yet e (inr spent) = let a = was_zero j e in let b : w (door p j) ≡ 3 = spent in omega arith
+
       moved : door p j ≢ door p i → HasArrived p w j → HasArrived p w' j
       moved ne (inl home) = inl (same_at j ne ∙ home)
       moved ne (inr spent) = inr (same_at j ne ∙ spent)
@@ -116,13 +116,16 @@ module _ (p : TilePlan) (workers : ℕ) (w w' : Words) (slots slots' : Slots) (v
         where
           at : IsPart p j × IsInHand p w j
           at = order.in_hand k j u t h
+
           apart : i ≢ j
           apart e = ne (order.once k id j u v t shows h (hand ∙ ap (λ (x : ℕ). Some x) e))
+
           still : HasArrived p w' j → ⊥
           still a = elim (cases_eq (door p j) (door p i)) [
             | inl same ↦ apart (newly j at.0 same a)
             | inr diff ↦ at.1.1 (arrived_back j diff a)
           ]
+
       by : ((k ≡ id) × (idle v n ≡ u)) ⊎ ((k ≢ id) × Shows views k u) → IsPart p j × IsInHand p w' j
       by (inl t) = absurd (no_hand u j (idle_hand u t.1) h)
       by (inr t) = other t.0 t.1
@@ -132,6 +135,7 @@ module _ (p : TilePlan) (workers : ℕ) (w w' : Words) (slots slots' : Slots) (v
     where
       apart : j ≢ i
       apart e = a.1 (subst (λ (x : ℕ). HasArrived p w' x) (sym e) (inl is_home))
+
       was : (k : ℕ) × ((u : View) × (Shows views k u × (u.hand ≡ Some j)))
       was = order.held j h (formed_back j a.0, λ b. a.1 (arrived_on j h b))
 
@@ -168,20 +172,22 @@ module _ (p : TilePlan) (workers : ℕ) (w w' : Words) (slots slots' : Slots) (v
       | inr t ↦ (let m = order.seen k u t.1 in ((let d = draws in let b = m.0 in omega arith), m.1))
     ];
     tiles = λ t low high. (let was = order.tiles t low (let d = draws in omega arith) in
-      (was.0, (slot.others t (not_unborn t (λ f. tile_unborn t low high f)) ∙ was.1.0, was.1.1)));
+        (was.0, (slot.others t (not_unborn t (λ f. tile_unborn t low high f)) ∙ was.1.0, was.1.1)));
     merges = λ m low h ne. slot.others m (not_unborn m (λ f. ne (merge_formed m low (formed_on m f)))) ∙ order.merges m low h (λ e. ne (merge_formed m low (formed_on m (inr (low, e)))));
     homes = λ j h home. elim (cases_eq j i) [
       | inl same ↦ (y, (ap slots' same ∙ slot.here, subst (λ (x : ℕ). Fits p x y) (sym same) fits))
       | inr ne ↦ at_home j h home ne (cases_eq (door p j) (door p i))
-    ]
+    ];
   }
     where
       tile_unborn : (t : ℕ) → t < tile_count p → w' 0 ≤ t → IsFormed p w t → ⊥
       tile_unborn t low high (inl f) = let a = f.1 in let d = draws in omega arith
       tile_unborn t low high (inr f) = let a = f.0 in omega arith
+
       merge_formed : (m : ℕ) → tile_count p ≤ m → IsFormed p w' m → w' (word_of p m) ≡ 3
       merge_formed m low (inl f) = absurd (let a = f.0 in omega arith)
       merge_formed m low (inr f) = f.1
+
       at_home : (j : ℕ) → IsPart p j → IsAtHome p w' j → j ≢ i → (door p j ≡ door p i) ⊎ (door p j ≢ door p i) → (part : PartState) × (Keeps slots' j part × Fits p j part)
       at_home j h home ne (inl same) = absurd (ne (sym (newly j h same (inl home))))
       at_home j h home ne (inr diff) = let was = order.homes j h (sym (same_at j diff) ∙ home) in (was.0, (slot.others j ne ∙ was.1.0, was.1.1))

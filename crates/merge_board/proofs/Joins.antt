@@ -73,13 +73,15 @@ lot_fits p t part h low o = record {
   a = λ e at. (let f = in_placed (lot_edges p t) e at in subst (λ (q : PlacedEdge). IsCovered part.region q.a) f.1.1 (covers p t part f.0.u (opened p t part o).shape (edges.first_ends f.0 (in_all f.0 f.1.0))));
   b = λ e at. (let f = in_placed (lot_edges p t) e at in subst (λ (q : PlacedEdge). IsCovered part.region q.b) f.1.1 (covers p t part f.0.v (opened p t part o).shape (edges.second_ends f.0 (in_all f.0 f.1.0))));
   two = λ e at. (let f = in_placed (lot_edges p t) e at in subst (λ (q : PlacedEdge). q.a ≢ q.b) f.1.1 (edges.among f.0 (in_all f.0 f.1.0)).apart);
-  apart = apart_listed (lot_edges p t) (subst (λ (s : EdgeList). AreApart s) tile.edges edges.apart)
+  apart = apart_listed (lot_edges p t) (subst (λ (s : EdgeList). AreApart s) tile.edges edges.apart);
 }
   where
     edges : HasEdges p t
     edges = has_edges p t h (omega arith)
+
     tile : IsTile p t
     tile = is_tile p t h low
+
     in_all : (e : ListedEdge) → IsIn e (lot_edges p t) → IsIn e (edges_at p t)
     in_all e at = subst (λ (s : EdgeList). IsIn e s) (sym tile.edges) at
 
@@ -89,11 +91,12 @@ pub built_fits : (p : TilePlan) (t : ℕ) (part made : PartState) → IsPlan p �
 built_fits p t part made h low o stands lots first places chunks room = fits p t made (record {
   shape = record { first = first ∙ o'.shape.first; places = places ∙ o'.shape.places; chunks = chunks ∙ o'.shape.chunks; room = room ∙ o'.shape.room };
   lots = lots ∙ sym tile.post;
-  stands = subst (λ (s : EdgeList). Stands made s) (sym tile.edges) stands
+  stands = subst (λ (s : EdgeList). Stands made s) (sym tile.edges) stands;
 })
   where
     o' : IsOpened p t part
     o' = opened p t part o
+
     tile : IsTile p t
     tile = is_tile p t h low
 
@@ -119,7 +122,7 @@ module _ (p : TilePlan) (m : ℕ) (a b : PartState) (plan : IsPlan p) (low : til
     left_stands = fa.stands;
     right_stands = fb.stands;
     crosses = λ e at. (let f = in_placed (lot_edges p m) e at in subst (λ (q : PlacedEdge). (IsCovered a.region q.a × IsCovered b.region q.b) ⊎ (IsCovered a.region q.b × IsCovered b.region q.a)) f.1.1 (cross f.0 (crosses p m f.0 plan low high f.1.0)));
-    apart = apart_after (edges_at p (left p m) ++ edges_at p (right p m)) (lot_edges p m) (subst (λ (s : EdgeList). AreApart s) joins.edges edges.apart)
+    apart = apart_after (edges_at p (left p m) ++ edges_at p (right p m)) (lot_edges p m) (subst (λ (s : EdgeList). AreApart s) joins.edges edges.apart);
   }
     where
       cross : (e : ListedEdge) → Crosses p m e → (IsCovered a.region e.u × IsCovered b.region e.v) ⊎ (IsCovered a.region e.v × IsCovered b.region e.u)
@@ -146,7 +149,7 @@ module _ (p : TilePlan) (m : ℕ) (a b : PartState) (plan : IsPlan p) (low : til
   halves_next = record {
     next = (let x = fb.shape.first in let y = halves.right_place in let f = fa.shape.first in let g = fa.shape.places in let l = left_is.some_place in omega (arith, x, y, f, g, l));
     places = subst (λ (r : ℕ). count a.region + count b.region ≤ r) (sym (ap (λ (r : Room). r.places) room_is)) (let e = both_places in let l = start-rises p (first_tile p m + tiles_of p m) (first_tile p m + room_tiles p (first_tile p m)) (let q = merge_is.room in omega arith) in omega (arith, e, l));
-    chunks = subst (λ (r : ℕ). a.region.chunks + b.region.chunks ≤ r) (sym (ap (λ (r : Room). r.chunks) room_is)) (let ca = fa.shape.chunks in let cb = fb.shape.chunks in let t = halves.tiles in let q = merge_is.room in omega (arith, ca, cb, t, q))
+    chunks = subst (λ (r : ℕ). a.region.chunks + b.region.chunks ≤ r) (sym (ap (λ (r : Room). r.chunks) room_is)) (let ca = fa.shape.chunks in let cb = fb.shape.chunks in let t = halves.tiles in let q = merge_is.room in omega (arith, ca, cb, t, q));
   }
     where
       room_is : a.region.room ≡ record { places = start p (first_tile p m + room_tiles p (first_tile p m)) - start p (first_tile p m); chunks = room_tiles p (first_tile p m) }
@@ -160,10 +163,10 @@ module _ (p : TilePlan) (m : ℕ) (a b : PartState) (plan : IsPlan p) (low : til
       first = first ∙ fa.shape.first ∙ halves.left_place;
       places = joined_places made places;
       chunks = (let ca = fa.shape.chunks in let cb = fb.shape.chunks in let t = halves.tiles in omega (arith, ca, cb, t, chunks));
-      room = room ∙ fa.shape.room ∙ ap (λ (t : ℕ). record { places = start p (t + room_tiles p t) - start p t; chunks = room_tiles p t }) halves.left_first
+      room = room ∙ fa.shape.room ∙ ap (λ (t : ℕ). record { places = start p (t + room_tiles p t) - start p t; chunks = room_tiles p t }) halves.left_first;
     };
     lots = lots ∙ (λ k. (fa.lots k ++ fb.lots k) ++ m ∷ []) ∙ sym joins.parts;
-    stands = subst (λ (s : EdgeList). Stands made s) (sym joins.edges) stands
+    stands = subst (λ (s : EdgeList). Stands made s) (sym joins.edges) stands;
   })
 
 -- a part has as many lots as there are parts at and below it

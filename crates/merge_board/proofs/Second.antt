@@ -15,7 +15,6 @@ use Rattle.merge_board.proofs.Changes.{IsChange, shown, still_shown, one_view, n
 
 module _ (p : TilePlan) (workers : ℕ) (w : Words) (slots : Slots) (views : Views) (plan : IsPlan p) (order : IsInOrder p workers w slots views)
     (id i : ℕ) (v : View) (shows : Shows views id v) (hand : v.hand ≡ Some i) where
-
   pub is_part : IsPart p i
   is_part = (order.in_hand id i v shows hand).0
 
@@ -54,7 +53,6 @@ module _ (p : TilePlan) (workers : ℕ) (w w' : Words) (slots slots' slots'' : S
     (id i n : ℕ) (v : View) (shows : Shows views id v) (hand : v.hand ≡ Some i) (inner : i ≢ root p) (some_word : w (door p i) ≢ 0)
     (words : IsChange w w' (door p i) 3) (slot : IsChange slots slots' (sibling p i) (some none)) (slot' : IsChange slots' slots'' (mother p i) (some none))
     (view : IsChange views views' id (some (with_merge v (mother p i) n))) where
-
   part_i : IsPart p i
   part_i = is_part p workers w slots views plan order id i v shows hand
 
@@ -174,13 +172,16 @@ module _ (p : TilePlan) (workers : ℕ) (w w' : Words) (slots slots' slots'' : S
         where
           at : IsPart p j × IsInHand p w j
           at = order.in_hand k j u t h
+
           apart : i ≢ j
           apart e = ne (order.once k id j u v t shows h (hand ∙ ap (λ (x : ℕ). Some x) e))
+
           still : HasArrived p w' j → ⊥
           still a = elim (cases_eq (door p j) (door p i)) [
             | inl same ↦ at.1.1 (other_arrived j at.0 same apart)
             | inr diff ↦ at.1.1 (arrived_back j diff a)
           ]
+
       by : ((k ≡ id) × (with_merge v (mother p i) n ≡ u)) ⊎ ((k ≢ id) × Shows views k u) → IsPart p j × IsInHand p w' j
       by (inl t) = subst (λ (x : ℕ). IsPart p x × IsInHand p w' x) (merge_hand u j t.1 h) (mother_at, (mother_formed, mother_away))
       by (inr t) = other t.0 t.1
@@ -193,8 +194,10 @@ module _ (p : TilePlan) (workers : ℕ) (w w' : Words) (slots slots' slots'' : S
     where
       arrived_i : HasArrived p w' i
       arrived_i = inr words.here
+
       apart : j ≢ i
       apart e = a.1 (subst (λ (x : ℕ). HasArrived p w' x) (sym e) arrived_i)
+
       other : j ≢ mother p i → (k : ℕ) × ((u : View) × (Shows views' k u × (u.hand ≡ Some j)))
       other ne = (was.0, (was.1.0, (still_shown views views' id was.0 (with_merge v (mother p i) n) was.1.0 view (other_seat was.0 j was.1.0 was.1.1.0 was.1.1.1 apart) was.1.1.0, was.1.1.1)))
         where
@@ -206,6 +209,7 @@ module _ (p : TilePlan) (workers : ℕ) (w w' : Words) (slots slots' slots'' : S
     where
       never : (m : ℕ) (c : View) → Shows views m c → c.hand ≡ Some j → mother p i ≡ j → ⊥
       never m c q r e = mother_not_formed (subst (λ (x : ℕ). IsFormed p w x) (sym e) (order.in_hand m j c q r).1.0)
+
       by : ((k ≡ id) × (with_merge v (mother p i) n ≡ a)) ⊎ ((k ≢ id) × Shows views k a) → ((l ≡ id) × (with_merge v (mother p i) n ≡ b)) ⊎ ((l ≢ id) × Shows views l b) → k ≡ l
       by (inl x) (inl z) = x.0 ∙ sym z.0
       by (inl x) (inr z) = absurd (never l b z.1 h (merge_hand a j x.1 g))
@@ -243,31 +247,38 @@ module _ (p : TilePlan) (workers : ℕ) (w w' : Words) (slots slots' slots'' : S
       | inr t ↦ (let m = order.seen k u t.1 in ((let d = draws in let b = m.0 in omega arith), m.1))
     ];
     tiles = λ t low high. (let was = order.tiles t low (let d = draws in omega arith) in
-      (was.0, (kept t (not_sibling t (λ f. tile_unborn t low high f)) (λ e. tile_low t low e) ∙ was.1.0, was.1.1)));
+        (was.0, (kept t (not_sibling t (λ f. tile_unborn t low high f)) (λ e. tile_low t low e) ∙ was.1.0, was.1.1)));
     merges = λ m low h ne. kept m (not_sibling m (λ f. ne (merge_formed m low (formed_on m f)))) (λ e. ne (ap (λ (x : ℕ). w' (word_of p x)) e ∙ words.here))
-      ∙ order.merges m low h (λ e. ne (merge_formed m low (formed_on m (inr (low, e)))));
-    homes = λ j h home. at_home j h home (cases_eq (door p j) (door p i))
+        ∙ order.merges m low h (λ e. ne (merge_formed m low (formed_on m (inr (low, e)))));
+    homes = λ j h home. at_home j h home (cases_eq (door p j) (door p i));
   }
     where
       root_range : w' (door p (root p)) ≤ 1
       root_range = let a = same_at (root p) (λ e. inner (door_of_root p plan i part_i e)) in let b = order.root_range in omega arith
+
       tile_unborn : (t : ℕ) → t < tile_count p → w' 0 ≤ t → IsFormed p w t → ⊥
       tile_unborn t low high (inl f) = let a = f.1 in let d = draws in omega arith
       tile_unborn t low high (inr f) = let a = f.0 in omega arith
+
       tile_low : (t : ℕ) → t < tile_count p → t ≡ mother p i → ⊥
       tile_low t low e = let a = mother_low in omega arith
+
       merge_formed : (m : ℕ) → tile_count p ≤ m → IsFormed p w' m → w' (word_of p m) ≡ 3
       merge_formed m low (inl f) = absurd (let a = f.0 in omega arith)
       merge_formed m low (inr f) = f.1
+
       at_home : (j : ℕ) → IsPart p j → IsAtHome p w' j → (door p j ≡ door p i) ⊎ (door p j ≢ door p i) → (part : PartState) × (Keeps slots'' j part × Fits p j part)
       at_home j h home (inl same) = absurd (let a = at_door j same in let b : w' (door p j) ≡ weight p j = home in let c = weight_two p plan j h in omega arith)
       at_home j h home (inr diff) = (was.0, (kept j not_sib not_mother ∙ was.1.0, was.1.1))
         where
           was_home : IsAtHome p w j
           was_home = sym (same_at j diff) ∙ home
+
           was : (part : PartState) × (Keeps slots j part × Fits p j part)
           was = order.homes j h was_home
+
           not_sib : j ≢ sibling p i
           not_sib e = diff (ap (λ (x : ℕ). door p x) e ∙ sibling_door p plan i part_i inner)
+
           not_mother : j ≢ mother p i
           not_mother e = mother_not_formed (subst (λ (x : ℕ). IsFormed p w x) e (order.formed j h (inl was_home)))

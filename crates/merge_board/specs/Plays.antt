@@ -39,9 +39,9 @@ pub record ArrivesWith (i : ℕ) (me : Hold) (n : ℕ) (after : Hold) : Type 0 w
   pub root_zero : i ≡ root me.0.plan → n ≡ 0
   pub waits : n ≡ 0 → (after.0 ≡ idle me.0 n) × (after.1 ≡ [])
   pub both : n ≢ 0 → (n ≡ weight me.0.plan (sibling me.0.plan i))
-    × ((after.0 ≡ with_merge me.0 (mother me.0.plan i) n)
-    × ((z : PartState) × (Fits me.0.plan (sibling me.0.plan i) z
-    × (after.1 ≡ (mother me.0.plan i, None) ∷ (sibling me.0.plan i, Some z) ∷ (i, last_of me.1) ∷ []))))
+      × ((after.0 ≡ with_merge me.0 (mother me.0.plan i) n)
+      × ((z : PartState) × (Fits me.0.plan (sibling me.0.plan i) z
+      × (after.1 ≡ (mother me.0.plan i, None) ∷ (sibling me.0.plan i, Some z) ∷ (i, last_of me.1) ∷ []))))
 
 abbrev pub Arrives : Hold → ℕ → Hold → Type 0
 Arrives me n after = (i : ℕ) → me.0.hand ≡ Some i → ArrivesWith i me n after

@@ -8,7 +8,7 @@ ghost use Rattle.merge_board.specs.Calls.{HasDrawn, HasMissed, IsArrival, HandsH
 
 use crate::arrival::Arrival;
 use crate::place;
-use crate::rule::{Drawing, Arriving, Order};
+use crate::rule::{Arriving, Drawing, Order};
 use crate::seat::{Seat, Token};
 use crate::view::{Key, View};
 use atomic_table::Table;

@@ -11,7 +11,6 @@ pub struct Seats {
 
 impl Model for Seats {
     ghost use Rattle.merge_board.specs.Seats.{SeatState};
-
     ghost use Rattle.std.specs.Prelude.{List};
 
     ghost Value = { List SeatState };

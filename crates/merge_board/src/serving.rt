@@ -28,7 +28,8 @@ fn hand_on<G: Gate>(board: &Board, plan: &Plan, seat: &mut Seat, gate: &G, numbe
         number: merge,
         left,
         right,
-    } = arrival else {
+    } = arrival
+    else {
         return;
     };
     gate.pass(seat.number(), GateEvent::Merging(merge));

@@ -19,4 +19,4 @@ build_tile-requires-clause-lot c =
 pub returns-clause-fits : goal.returns-clause-fits
 returns-clause-fits c =
     built_fits c.args.plan.now c.args.tile c.args.part c.build_tile.result c.tiles.ensures.plan c.requires.tile c.requires.opened (c.build_tile.ensures.stands (lot_edges c.args.plan.now c.args.tile) (sym c.lot.ensures.value)) c.build_tile.ensures.lots
-      c.build_tile.ensures.range.first c.build_tile.ensures.range.count c.build_tile.ensures.range.chunks c.build_tile.ensures.range.room
+    c.build_tile.ensures.range.first c.build_tile.ensures.range.count c.build_tile.ensures.range.chunks c.build_tile.ensures.range.room

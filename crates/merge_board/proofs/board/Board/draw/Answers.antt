@@ -10,9 +10,12 @@ fetch_add-found-requires c =
     let hand : c.seat.inside.token.me.0.hand ≡ None = search rules in
     let fresh : c.seat.inside.token.me.0.missed ≡ false = search rules in
     let known : c.seat.inside.token.me.0.plan ≡ c.self.inside.table.shared.key.plan.value = search rules in
-    let held : c.seat.inside.token.me.1 ≡ [] = idle_turns c.seat.inside.token.me.0.plan c.seat.inside.token.me.0.hand c.seat.inside.token.me.1 hand c.seat.invariant.turns in
-    (search rules, (let w = c.self.invariant.words in omega arith), may_draw c.self.inside.table.shared.key.plan.value c.self.inside.table.shared.key.workers c.seat.inside.token.id c.self.inside.table.shared.table_id.slots c.seat.inside.token.me
-      hand fresh c.seat.invariant.share known held)
+    let held : c.seat.inside.token.me.1 ≡ [] = idle_turns c.seat.inside.token.me.0.plan c.seat.inside.token.me.0.hand c.seat.inside.token.me.1 hand c.seat.invariant.turns in (
+      search rules,
+      (let w = c.self.invariant.words in omega arith),
+      may_draw c.self.inside.table.shared.key.plan.value c.self.inside.table.shared.key.workers c.seat.inside.token.id c.self.inside.table.shared.table_id.slots c.seat.inside.token.me
+          hand fresh c.seat.invariant.share known held,
+    )
 
 -- src/board.rt:55:9
 pub exchange-requires : goal.exchange-requires

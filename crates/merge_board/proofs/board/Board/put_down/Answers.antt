@@ -19,9 +19,12 @@ fetch_add-requires c =
     let by : c.weight-weight.result ≡ weight c.self.inside.table.shared.key.plan.value c.args.number = c.weight-weight.ensures ∙ ap (λ (q : TilePlan). weight q c.args.number) (c.requires.plan ∙ plan) in
     let me : c.turn.new.self.me ≡ (c.args.token.now.me.0, turned ((c.args.number, Some c.args.part) ∷ rest c.args.token.now.me.1)) = c.turn.ensures.2 ∙ ap (λ (m : Hold). (m.0, turned m.1)) c.exchange.ensures.3 in
     let part : c.args.number < part_count c.self.inside.table.shared.key.plan.value = subst (λ (q : TilePlan). c.args.number < part_count q) plan c.requires.part in
-    let low : c.door-word.result < c.self.inside.table.shared.table_id.words = (let d = door_within c.self.inside.table.shared.key.plan.value c.args.number c.self.invariant.plan part in let w = c.self.invariant.words in omega (arith, word, d, w)) in
-    (search rules, low, may_put_down c.self.inside.table.shared.key.plan.value c.self.inside.table.shared.key.workers c.turn.new.self.id c.self.inside.table.shared.table_id.slots c.args.number c.args.token.now.me c.turn.new.self.me c.door-word.result c.weight-weight.result c.args.part
-      c.requires.hand known fits turns me word by)
+    let low : c.door-word.result < c.self.inside.table.shared.table_id.words = (let d = door_within c.self.inside.table.shared.key.plan.value c.args.number c.self.invariant.plan part in let w = c.self.invariant.words in omega (arith, word, d, w)) in (
+      search rules,
+      low,
+      may_put_down c.self.inside.table.shared.key.plan.value c.self.inside.table.shared.key.workers c.turn.new.self.id c.self.inside.table.shared.table_id.slots c.args.number c.args.token.now.me c.turn.new.self.me c.door-word.result c.weight-weight.result c.args.part
+          c.requires.hand known fits turns me word by,
+    )
 
 pub returns-clause-arrives : goal.returns-clause-arrives
 returns-clause-arrives c =

@@ -38,7 +38,7 @@ returns-in-Left-clause-halves c =
     let side : side_of (weight c.args.self.now.plan c.args.number) ≡ sides.Left = subst (λ (q : TilePlan). side_of (weight q c.args.number) ≡ sides.Left) c.requires.plan (sym c.merge_above-mother.ensures.side ∙ c.in-Left.is) in
     let above : c.merge_above-mother.result.0 ≡ mother c.args.self.now.plan c.args.number = c.merge_above-mother.ensures.mother ∙ ap (λ (q : TilePlan). mother q c.args.number) c.requires.plan in
     halves_left c.args.self.now.plan c.args.number c.merge_above-mother.result.0 c.in-Some-Some.own c.in-Some-Some.other plan c.requires.part c.requires.inner side above
-      (subst (λ (x : PartState). Fits c.args.self.now.plan c.args.number x) (sym own) c.requires.held.own_fits) (subst (λ (x : PartState). Fits c.args.self.now.plan (sibling c.args.self.now.plan c.args.number) x) (sym other) c.requires.held.other_fits)
+    (subst (λ (x : PartState). Fits c.args.self.now.plan c.args.number x) (sym own) c.requires.held.own_fits) (subst (λ (x : PartState). Fits c.args.self.now.plan (sibling c.args.self.now.plan c.args.number) x) (sym other) c.requires.held.other_fits)
 
 pub returns-in-Right-clause-halves : goal.returns-in-Right-clause-halves
 returns-in-Right-clause-halves c =
@@ -53,4 +53,4 @@ returns-in-Right-clause-halves c =
     let side : side_of (weight c.args.self.now.plan c.args.number) ≡ sides.Right = subst (λ (q : TilePlan). side_of (weight q c.args.number) ≡ sides.Right) c.requires.plan (sym c.merge_above-mother.ensures.side ∙ c.in-Right.is) in
     let above : c.merge_above-mother.result.0 ≡ mother c.args.self.now.plan c.args.number = c.merge_above-mother.ensures.mother ∙ ap (λ (q : TilePlan). mother q c.args.number) c.requires.plan in
     halves_right c.args.self.now.plan c.args.number c.merge_above-mother.result.0 c.in-Some-Some.own c.in-Some-Some.other plan c.requires.part c.requires.inner side above
-      (subst (λ (x : PartState). Fits c.args.self.now.plan c.args.number x) (sym own) c.requires.held.own_fits) (subst (λ (x : PartState). Fits c.args.self.now.plan (sibling c.args.self.now.plan c.args.number) x) (sym other) c.requires.held.other_fits)
+    (subst (λ (x : PartState). Fits c.args.self.now.plan c.args.number x) (sym own) c.requires.held.own_fits) (subst (λ (x : PartState). Fits c.args.self.now.plan (sibling c.args.self.now.plan c.args.number) x) (sym other) c.requires.held.other_fits)

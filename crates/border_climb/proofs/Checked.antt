@@ -1,10 +1,10 @@
 -- A test of lots, for lots that are written out.
-use Rattle.std.proofs.Common.{◌≡◌, ◌≢◌, ℕ, ◌+◌, ◌<◌, ◌≤◌, inl, inr, refl, sym, ◌∙◌, subst, ap, arith, List, [], ◌∷◌, map, nat_le, nat_lt, ◌==◌, Bool, true, false}
+use Rattle.std.proofs.Common.{◌≡◌, ◌≢◌, ℕ, ◌+◌, ◌<◌, ◌≤◌, inl, inr, sym, ◌∙◌, subst, ap, List, [], ◌∷◌, map, nat_le, nat_lt, ◌==◌, Bool, true}
 use Rattle.std.specs.Prelude.{not, ◌&&◌}
 use Rattle.std.proofs.lemmas.Bool.{and_parts, leb-true, ltb-true, eq-eqb, true≢false}
 use Rattle.hg_base.specs.Edges.{ListedEdge, IsIn, AreApart}
 use Rattle.hg_base.specs.declared.graph.PlacedEdge.{PlacedEdge}
-use Rattle.node_region.specs.Pool.{CellPool, IsCovered, count}
+use Rattle.node_region.specs.Pool.{CellPool, count}
 use Rattle.border_climb.specs.Stands.{PartState, Stands}
 use Rattle.border_climb.specs.Parts.{listed, IsLot, CanTake}
 
@@ -44,7 +44,7 @@ differs-is r [] h f none eq = none
 differs-is r (x ∷ xs) h f (inl same) eq = not-equal r x.rank (and_parts _ _ h).0 (eq ∙ sym (ap (λ (g : ListedEdge). g.rank) same))
 differs-is r (x ∷ xs) h f (inr later) eq = differs-is r xs (and_parts _ _ h).1 f later eq
 
-apart : (first n : ℕ) (lot : List PlacedEdge) → is_lot first n lot ≡ true → AreApart (map listed lot)
+pub apart : (first n : ℕ) (lot : List PlacedEdge) → is_lot first n lot ≡ true → AreApart (map listed lot)
 apart first n [] h = tt
 apart first n (x ∷ xs) h =
     let p = and_parts (covers first n x.a && (covers first n x.b && (not (x.a == x.b) && differs x.rank xs))) (is_lot first n xs) h in

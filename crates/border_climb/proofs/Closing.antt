@@ -1,28 +1,26 @@
 -- The merge ends: one chain has ended, or both meet at a cell that joins no more.
-use Rattle.std.proofs.Common.{◌≡◌, ℕ, suc, ◌+◌, ◌<◌, ◌≤◌, Bool, true, false, ◌⊎◌, inl, inr, refl, sym, ◌∙◌, subst, ap, arith, ◌∷◌}
-use Rattle.std.specs.Prelude.{◌||◌, Option, Some, None}
-use Rattle.std.proofs.lemmas.Bool.{cases_Bool, cases_order, cases_eq, true≢false, or_left, or_right}
-use Rattle.hg_base.specs.Edges.{ListedEdge, EdgeList, IsIn, AreEnds, AreApart, Joined, joined, below, joins, chain, next}
+use Rattle.std.proofs.Common.{◌≡◌, ℕ, suc, ◌+◌, ◌<◌, ◌≤◌, true, inl, inr, refl, sym, ◌∙◌, subst, ap, arith, ◌∷◌}
+use Rattle.std.specs.Prelude.{Option, Some, None}
+use Rattle.std.proofs.lemmas.Bool.{cases_Bool, cases_order, cases_eq, true≢false, or_left}
+use Rattle.hg_base.specs.Edges.{ListedEdge, EdgeList, IsIn, AreEnds, Joined, joined, below, joins, next}
 use Rattle.hg_base.specs.Saliency.{MeetFirst}
 use Rattle.hg_base.proofs.Walks.{IsSame-joined}
-use Rattle.hg_base.proofs.Sets.{joined_below-more, joined-same, IsIn-joins, IsIn-joins_kept, IsOnChain, IsIn-chain_kept}
+use Rattle.hg_base.proofs.Sets.{joined-same, IsIn-joins, IsIn-joins_kept, IsIn-chain_kept}
 use Rattle.hg_base.proofs.Fronts.{apart-one}
 use Rattle.hg_base.proofs.Components.{rank_above, below-all}
 use Rattle.hg_base.proofs.Members.{IsSameSet-back}
-use Rattle.hg_base.proofs.Leaving.{leaves}
-use Rattle.hg_base.proofs.Next.{IsIn-leaving, IsIn-leaving_kept}
+use Rattle.hg_base.proofs.Next.{IsIn-leaving}
 use Rattle.hg_base.proofs.Firsts.{IsUpTo, IsBefore}
 use Rattle.hg_base.proofs.Splice.{next-joined}
-use Rattle.hg_base.proofs.Merged.{next-row, joined-to_end}
+use Rattle.hg_base.proofs.Merged.{next-row}
 use Rattle.hg_base.proofs.LawForms.{Joined-back}
-use Rattle.hg_base.proofs.Meeting.{joined-by}
-use Rattle.hg_base.proofs.Drops.{joins-kept, meets_both, not-Joined, holds}
-use Rattle.hg_base.proofs.Ends.{IsBefore-to, next-later, next-is, next-quiet, next-some, stays-before, reached-leaves, apart-back, ends-apart, ends-joined, Apart, needed, joins-stays, next-neither, next-single, next-both}
-use Rattle.node_region.specs.Pool.{CellPool, IsCovered, cell_at, leaf_of}
+use Rattle.hg_base.proofs.Drops.{joins-kept, meets_both, holds}
+use Rattle.hg_base.proofs.Ends.{next-later, next-is, next-quiet, stays-before, reached-leaves, apart-back, ends-apart, Apart, needed, joins-stays, next-neither, next-single, next-both}
+use Rattle.node_region.specs.Pool.{CellPool, cell_at, leaf_of}
 use Rattle.node_region.specs.declared.cell.Cell.{Cell}
 use Rattle.border_climb.specs.Linked.{HasRank, Points, IsCellOf, AreLinked}
-use Rattle.border_climb.specs.Splicing.{IsMerging, KeepsLeafs, IsRelinked, IsDropped}
-use Rattle.border_climb.proofs.Linked.{cell-edge, next-behind}
+use Rattle.border_climb.specs.Splicing.{IsMerging, IsRelinked, IsDropped}
+use Rattle.border_climb.proofs.Linked.{cell-edge}
 use Rattle.border_climb.proofs.Merging.{KeepsRanks, points-kept, cell-kept, relinked-ranks, relinked-cases, relinked-alone}
 
 -- a link that leads nowhere: nothing comes next

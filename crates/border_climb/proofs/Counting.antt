@@ -1,20 +1,20 @@
 -- The free numbers are as many as the components.
-use Rattle.std.proofs.Common.{◌≡◌, ◌≢◌, ℕ, zero, suc, ◌+◌, ◌-◌, ◌<◌, ◌≤◌, ◌⊎◌, inl, inr, refl, sym, ◌∙◌, subst, ap, arith, List, [], ◌∷◌, length, get_or, set, count_by, is_none, cond, true, false, Bool}
-use Rattle.std.specs.Prelude.{Option, Some, None, IsSome, sum_by}
+use Rattle.std.proofs.Common.{◌≡◌, ◌≢◌, ℕ, zero, suc, ◌+◌, ◌-◌, ◌<◌, ◌≤◌, inl, inr, refl, sym, ◌∙◌, subst, ap, arith, List, [], ◌∷◌, length, get_or, set, count_by, is_none, cond, true, false, Bool}
+use Rattle.std.specs.Prelude.{Option, Some, None, IsSome}
 use Rattle.std.proofs.lemmas.Bool.{cases_eq, false_from_ne_true}
 use Rattle.std.proofs.lemmas.List.Sums.{sum_by-set}
 use Rattle.hg_base.proofs.CountBy.{count_by-is}
 use Rattle.std.proofs.lemmas.List.{length-set, get_or-set_same, get_or-set_other}
-use Rattle.hg_base.specs.Edges.{ListedEdge, EdgeList, IsIn, AreWithin, IsWalk, Joined, joined, joins, count_below, is_least, components}
+use Rattle.hg_base.specs.Edges.{ListedEdge, EdgeList, IsIn, IsWalk, joined, joins, count_below, is_least, components}
 use Rattle.hg_base.proofs.Walks.{IsSame-joined, Joined-joined}
 use Rattle.hg_base.proofs.Members.{IsRising}
 use Rattle.hg_base.proofs.Sets.{IsIn-joins_kept, IsRising-joins}
 use Rattle.hg_base.proofs.Counts.{count_below-all, is_least-from}
 use Rattle.hg_base.proofs.Components.{joins-count}
-use Rattle.node_region.specs.Pool.{CellPool, IsPool, count, IsCovered, entry, cell_at}
+use Rattle.node_region.specs.Pool.{CellPool, IsPool, count, cell_at}
 use Rattle.node_region.specs.declared.cell.Cell.{Cell}
 use Rattle.node_region.proofs.Entries.{entry-is, entry-covered}
-use Rattle.border_climb.specs.Linked.{HasRank, IsCellOf, AreLinked, AreBetween}
+use Rattle.border_climb.specs.Linked.{HasRank, AreLinked, AreBetween}
 use Rattle.border_climb.proofs.Linked.{own-chain, climb-meets}
 
 -- each cell of the list is of the rank of one of the edges, each edge has one, and no two have one rank

@@ -3,14 +3,14 @@ use Rattle.std.proofs.lemmas.List.{take_more, append-nil}
 use Rattle.border_climb.specs.Parts.{KeepsPart}
 use Rattle.border_climb.proofs.Writes.{range-on}
 use Rattle.border_climb.proofs.Parts.{covered-on}
-use Rattle.std.proofs.Common.{◌≡◌, ◌≢◌, ℕ, zero, suc, ◌+◌, ◌-◌, ◌<◌, ◌≤◌, ◌⊎◌, inl, inr, refl, sym, ◌∙◌, subst, ap, arith, List, [], ◌∷◌, ◌++◌, length, map, take, drop, get_or, append_assoc, length-append}
+use Rattle.std.proofs.Common.{◌≡◌, ◌≢◌, ℕ, zero, suc, ◌+◌, ◌<◌, ◌⊎◌, inl, inr, refl, sym, ◌∙◌, subst, ap, arith, List, [], ◌∷◌, ◌++◌, length, map, take, drop, get_or, append_assoc, length-append}
 use Rattle.hg_base.specs.Edges.{ListedEdge, EdgeList, IsIn, IsSameSet, AreApart}
 use Rattle.hg_base.specs.Placed.{placed, ranks}
 use Rattle.hg_base.specs.declared.graph.PlacedEdge.{PlacedEdge}
 use Rattle.hg_base.proofs.Components.{IsIn-append, IsIn-append_back}
 use Rattle.hg_base.proofs.Sets.{chain-same}
 use Rattle.hg_base.proofs.SideBySide.{AreApart-turned}
-use Rattle.node_region.specs.Pool.{CellPool, IsCovered, leaf_of}
+use Rattle.node_region.specs.Pool.{IsCovered, leaf_of}
 use Rattle.border_climb.specs.Stands.{PartState, IsClimb, Stands, IsNewRank}
 use Rattle.border_climb.specs.Parts.{listed, CanTake}
 

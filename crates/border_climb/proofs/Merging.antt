@@ -1,20 +1,18 @@
 -- Two chains are merged above a new edge, run by run.
-use Rattle.std.proofs.Common.{◌≡◌, ℕ, suc, ◌<◌, ◌≤◌, Bool, true, false, ◌⊎◌, inl, inr, refl, sym, ◌∙◌, subst, ap, arith, ◌∷◌}
-use Rattle.std.specs.Prelude.{◌||◌, Option, Some, None}
-use Rattle.std.proofs.lemmas.Bool.{cases_Bool, cases_order, cases_eq, true≢false, or_left, or_right}
+use Rattle.std.proofs.Common.{◌≡◌, ℕ, suc, ◌<◌, ◌≤◌, true, false, ◌⊎◌, inl, inr, refl, sym, ◌∙◌, subst, ap, arith, ◌∷◌}
+use Rattle.std.specs.Prelude.{Option, Some, None}
+use Rattle.std.proofs.lemmas.Bool.{cases_Bool, cases_order, cases_eq, or_left}
 use Rattle.hg_base.specs.Edges.{ListedEdge, EdgeList, IsIn, AreEnds, AreApart, joined, below, joins, chain, next}
 use Rattle.hg_base.proofs.Walks.{IsSame-joined}
 use Rattle.hg_base.proofs.Sets.{IsIn-joins, IsIn-joins_kept, IsOnChain, IsIn-chain_kept}
-use Rattle.hg_base.proofs.Fronts.{apart-one}
-use Rattle.hg_base.proofs.Leaving.{leaves}
-use Rattle.hg_base.proofs.Next.{IsIn-leaving, IsIn-leaving_kept}
+use Rattle.hg_base.proofs.Next.{IsIn-leaving_kept}
 use Rattle.hg_base.proofs.Firsts.{IsUpTo, IsBefore}
 use Rattle.hg_base.proofs.Merged.{next-row, joined-to_end}
-use Rattle.hg_base.proofs.Ends.{IsBefore-to, IsUpTo-after, next-later, next-is, next-quiet, next-some, stays-before, reached-leaves, apart-back, Apart, joins-stays, or-turned, next-neither, next-lower}
-use Rattle.node_region.specs.Pool.{CellPool, IsCovered, cell_at, leaf_of}
+use Rattle.hg_base.proofs.Ends.{IsBefore-to, IsUpTo-after, next-later, next-quiet, next-some, stays-before, reached-leaves, apart-back, Apart, joins-stays, or-turned, next-neither, next-lower}
+use Rattle.node_region.specs.Pool.{CellPool, cell_at, leaf_of}
 use Rattle.node_region.specs.declared.cell.Cell.{Cell}
 use Rattle.border_climb.specs.Linked.{HasRank, Points, IsCellOf}
-use Rattle.border_climb.specs.Splicing.{IsMerging, KeepsLeafs, IsRelinked}
+use Rattle.border_climb.specs.Splicing.{IsMerging, IsRelinked}
 use Rattle.border_climb.proofs.Linked.{cell-edge, next-behind}
 
 -- each number with a cell still has one of that rank

@@ -1,15 +1,15 @@
 -- The new edge's cell is put above the last cells below it on the chains of its ends.
-use Rattle.std.proofs.Common.{◌≡◌, ℕ, suc, ◌<◌, ◌≤◌, Bool, true, false, ◌⊎◌, inl, inr, refl, sym, ◌∙◌, subst, ap, arith, ◌∷◌}
-use Rattle.std.specs.Prelude.{◌||◌, Option, Some, None}
+use Rattle.std.proofs.Common.{◌≡◌, ℕ, suc, ◌<◌, ◌≤◌, true, false, inl, inr, refl, sym, ◌∙◌, subst, ap, arith, ◌∷◌}
+use Rattle.std.specs.Prelude.{Option, Some, None}
 use Rattle.std.specs.Option.{option_map_or}
-use Rattle.std.proofs.lemmas.Bool.{cases_Bool, cases_order, cases_eq, false_from_ne_true, true≢false, or_left, or_right}
-use Rattle.hg_base.specs.Edges.{ListedEdge, EdgeList, IsIn, AreEnds, AreApart, Joined, joined, below, joins, chain, next}
+use Rattle.std.proofs.lemmas.Bool.{cases_order, cases_eq, false_from_ne_true, or_left}
+use Rattle.hg_base.specs.Edges.{ListedEdge, EdgeList, IsIn, AreApart, joined, below, joins, next}
 use Rattle.hg_base.specs.Splice.{IsRedundant}
 use Rattle.hg_base.proofs.Walks.{IsSame-joined}
-use Rattle.hg_base.proofs.Sets.{joined_below-more, IsIn-joins, IsIn-joins_kept, IsIn-chain_kept}
+use Rattle.hg_base.proofs.Sets.{joined_below-more, IsIn-joins_kept}
 use Rattle.hg_base.proofs.Fronts.{apart-one, joined-step_without, joined-first_front}
 use Rattle.hg_base.proofs.Leaving.{leaves, row-same}
-use Rattle.hg_base.proofs.Next.{IsIn-leaving, IsIn-leaving_kept}
+use Rattle.hg_base.proofs.Next.{IsIn-leaving_kept}
 use Rattle.hg_base.proofs.Firsts.{IsUpTo, IsBefore}
 use Rattle.hg_base.proofs.Splice.{next-before}
 use Rattle.hg_base.proofs.Merged.{next-row, joined-to_end}
@@ -18,7 +18,7 @@ use Rattle.hg_base.proofs.Ends.{IsBefore-to, IsUpTo-after, next-later, next-is, 
 use Rattle.node_region.specs.Pool.{CellPool, IsCovered, cell_at, leaf_of}
 use Rattle.node_region.specs.declared.cell.Cell.{Cell}
 use Rattle.border_climb.specs.Linked.{HasRank, Points, IsCellOf, AreLinked}
-use Rattle.border_climb.specs.Splicing.{IsLastCell, IsLast, IsMerging, IsOpenedCell, IsOpened, up_of}
+use Rattle.border_climb.specs.Splicing.{IsLastCell, IsLast, IsMerging, IsOpened, up_of}
 use Rattle.border_climb.proofs.Linked.{cell-edge, next-behind}
 use Rattle.border_climb.proofs.Merging.{points-kept}
 

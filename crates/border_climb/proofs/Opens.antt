@@ -1,19 +1,16 @@
 -- What putting a new cell above two chains leaves, as the code does it.
-use Rattle.std.proofs.Common.{◌≡◌, ◌≢◌, ℕ, suc, ◌+◌, ◌-◌, ◌<◌, ◌≤◌, ◌⊎◌, inl, inr, refl, sym, ◌∙◌, subst, ap, arith, ◌∷◌, List, set, get_or, length, nat_le, cond, min, ◌^◌, true, false, Bool}
-use Rattle.std.specs.Prelude.{Option, Some, None, IsSome, IfSome}
+use Rattle.std.proofs.Common.{◌≡◌, ◌≢◌, ℕ, ◌+◌, ◌-◌, ◌<◌, ◌≤◌, ◌⊎◌, inl, inr, refl, sym, ◌∙◌, subst, ap, arith, set, length}
+use Rattle.std.specs.Prelude.{Option, Some, None, IfSome}
 use Rattle.std.specs.Option.{option_map_or}
-use Rattle.std.proofs.lemmas.Bool.{cases_Bool, cases_eq, leb-true, le-leb}
-use Rattle.std.proofs.lemmas.List.{length-set, get_or-set_same, get_or-set_other}
-use Rattle.hg_base.specs.Edges.{ListedEdge, EdgeList, IsIn}
-use Rattle.node_region.specs.Pool.{CellPool, IsPool, count, IsCovered, IsUsed, entry, cell_at, leaf_of, turn_of, hint_of, finger_of, next_turn, with_cell, with_leaf, with_taken}
+use Rattle.std.proofs.lemmas.Bool.{cases_eq}
+use Rattle.std.proofs.lemmas.List.{length-set}
+use Rattle.node_region.specs.Pool.{CellPool, IsPool, count, IsCovered, IsUsed, entry, cell_at, leaf_of, with_taken}
 use Rattle.node_region.specs.declared.cell.Cell.{Cell}
-use Rattle.node_region.specs.declared.cell.Hint.{Hint}
-use Rattle.node_region.proofs.Entries.{entry-set_same, entry-set_other}
+use Rattle.node_region.proofs.Entries.{entry-set_same}
 use Rattle.border_climb.specs.Linked.{HasRank}
-use Rattle.border_climb.specs.Notes.{IsLive, AreOld, LeadsUp, AreNoted}
-use Rattle.border_climb.specs.Splicing.{IsOpenedCell, IsOpened, CanOpen}
+use Rattle.border_climb.specs.Splicing.{IsOpened, CanOpen}
 use Rattle.border_climb.specs.Climbs.{with_up, opened_pool}
-use Rattle.border_climb.proofs.Pools.{entry-cases, used-covered, used-from, used-cell, one-cell}
+use Rattle.border_climb.proofs.Pools.{used-from, used-cell, one-cell}
 use Rattle.border_climb.proofs.Writes.{entry-other, relinked-with}
 use Rattle.border_climb.proofs.Merging.{relinked-cases, relinked-ranks}
 

@@ -1,9 +1,9 @@
 -- Parts: what a splice means for the list that a part stands for, and the answers.
-use Rattle.std.proofs.Common.{◌≡◌, ◌≢◌, ℕ, zero, suc, ◌+◌, ◌-◌, ◌<◌, ◌≤◌, ◌⊎◌, inl, inr, refl, sym, ◌∙◌, subst, ap, arith, List, [], ◌∷◌, get_or, length, replicate, ◌^◌, true, false, nat_le}
-use Rattle.std.specs.Prelude.{Option, Some, None, IsSome, IfSome}
+use Rattle.std.proofs.Common.{◌≡◌, ◌≢◌, ℕ, zero, suc, ◌+◌, ◌-◌, ◌<◌, ◌≤◌, inl, inr, refl, sym, ◌∙◌, subst, ap, arith, [], ◌∷◌, get_or, length, replicate, ◌^◌, nat_le}
+use Rattle.std.specs.Prelude.{Option, Some, None, IfSome}
 use Rattle.std.specs.Option.{option_map_or}
 use Rattle.std.proofs.lemmas.Bool.{cases_Bool}
-use Rattle.hg_base.specs.Edges.{ListedEdge, EdgeList, IsIn, IsOneToOne, AreApart, Joined, joined, below, components}
+use Rattle.hg_base.specs.Edges.{ListedEdge, EdgeList, IsIn, AreApart, Joined, below, components}
 use Rattle.hg_base.specs.Placed.{placed}
 use Rattle.hg_base.specs.declared.graph.PlacedEdge.{PlacedEdge}
 use Rattle.hg_base.specs.declared.graph.Room.{Room}
@@ -11,15 +11,15 @@ use Rattle.hg_base.specs.Saliency.{MeetFirst}
 use Rattle.hg_base.proofs.Pigeons.{pigeonhole}
 use Rattle.hg_base.proofs.Members.{IsIn-below_kept}
 use Rattle.hg_base.proofs.LawForms.{Joined-among}
-use Rattle.node_region.specs.Pool.{CellPool, IsPool, count, IsCovered, IsUsed, entry, cell_at, leaf_of, hint_of, finger_of, fresh_pool}
+use Rattle.node_region.specs.Pool.{CellPool, IsPool, count, IsCovered, entry, cell_at, fresh_pool}
 use Rattle.node_region.specs.declared.cell.Cell.{Cell}
 use Rattle.border_climb.specs.declared.given.Given.{Given}
 use Rattle.border_climb.specs.declared.given.Given.TheVariants as answers
 use Rattle.border_climb.specs.Stands.{PartState, Stands, IsNewRank}
-use Rattle.border_climb.specs.Linked.{Points, AreLinked, AreBetween}
+use Rattle.border_climb.specs.Linked.{Points}
 use Rattle.border_climb.specs.Notes.{IsSound}
 use Rattle.border_climb.specs.Splicing.{KeepsRange, IsLinkedList, IsSpliced, Tells, rank_of}
-use Rattle.border_climb.specs.Parts.{IsLeastRank, IsAnswer, empty_part, above_cell, listed}
+use Rattle.border_climb.specs.Parts.{IsLeastRank, IsAnswer, empty_part, listed}
 use Rattle.border_climb.proofs.Linked.{Stands-linked, linked-Stands, between-Stands}
 use Rattle.border_climb.proofs.Counting.{free-components}
 

@@ -1,16 +1,15 @@
 -- What a pool has at a number, before and after a write; pools that differ in notes alone.
-use Rattle.std.proofs.Common.{◌≡◌, ◌≢◌, ℕ, zero, suc, ◌+◌, ◌-◌, ◌<◌, ◌≤◌, ◌⊎◌, inl, inr, refl, sym, ◌∙◌, subst, ap, arith, List, set, length, cond, nat_le, true, false}
+use Rattle.std.proofs.Common.{◌≡◌, ℕ, zero, suc, ◌+◌, ◌-◌, ◌<◌, ◌≤◌, ◌⊎◌, inl, inr, refl, sym, ◌∙◌, subst, ap, arith, List, set, length}
 use Rattle.std.specs.Prelude.{Option, Some, None, IsSome, IfSome}
-use Rattle.std.proofs.lemmas.Bool.{cases_eq, cases_Bool, true≢false}
-use Rattle.std.proofs.lemmas.Bool.Decides.{eqb_tells}
+use Rattle.std.proofs.lemmas.Bool.{cases_eq, true≢false}
 use Rattle.std.proofs.lemmas.List.{length-set}
-use Rattle.node_region.specs.Pool.{CellPool, IsCovered, IsUsed, entry, cell_at, leaf_of, turn_of, hint_of, finger_of, hinted_cell, with_finger}
+use Rattle.node_region.specs.Pool.{CellPool, IsCovered, IsUsed, entry, cell_at, leaf_of, turn_of, finger_of, with_finger}
 use Rattle.node_region.specs.declared.cell.Cell.{Cell}
 use Rattle.node_region.specs.declared.cell.Hint.{Hint}
 use Rattle.node_region.proofs.Entries.{entry-set_same, entry-set_other, entry-covered}
 use Rattle.border_climb.specs.Stands.{IsMet}
 use Rattle.border_climb.specs.Linked.{HasRank}
-use Rattle.border_climb.specs.Notes.{IsLive, AreOld, IsSound, IsClimbable, IsNote, IsNoted}
+use Rattle.border_climb.specs.Notes.{IsLive, IsSound, IsClimbable, IsNote, IsNoted}
 
 -- what there is after a write: what was written, or what was there before
 pub entry-cases : {X : Type 0} (first : ℕ) (xs : List (Option X)) (id : ℕ) (y : Option X) (i : ℕ) (v : X) → first ≤ id → entry first (set xs (id - first) y) i ≡ Some v →

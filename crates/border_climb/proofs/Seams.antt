@@ -1,25 +1,20 @@
 -- The seam of two chains and the notes: what climbs and writes leave of them.
-use Rattle.std.proofs.Common.{◌≡◌, ◌≢◌, ℕ, zero, suc, ◌<◌, ◌≤◌, ◌⊎◌, inl, inr, refl, sym, ◌∙◌, subst, ap, arith, ◌∷◌, true, false}
+use Rattle.std.proofs.Common.{◌≡◌, ℕ, suc, ◌<◌, ◌≤◌, inl, inr, refl, sym, ◌∙◌, subst, ap, arith, ◌∷◌}
 use Rattle.std.specs.Prelude.{Option, Some, None, IsSome}
-use Rattle.std.specs.Option.{option_map_or}
 use Rattle.hg_base.specs.Edges.{ListedEdge, EdgeList, IsIn, AreApart, joins, chain, next}
-use Rattle.hg_base.proofs.Sets.{IsIn-joins, IsIn-joins_kept, IsIn-chain_kept}
-use Rattle.hg_base.proofs.Fronts.{apart-one}
+use Rattle.hg_base.proofs.Sets.{IsIn-joins_kept}
 use Rattle.hg_base.proofs.Next.{IsIn-leaving_kept}
-use Rattle.hg_base.proofs.Firsts.{IsBefore}
 use Rattle.hg_base.proofs.Ends.{next-is, chain-kept}
 use Rattle.node_region.specs.Pool.{CellPool, IsCovered, IsUsed, cell_at, leaf_of, turn_of, hint_of, finger_of}
 use Rattle.node_region.specs.declared.cell.Cell.{Cell}
 use Rattle.node_region.specs.declared.cell.Hint.{Hint}
-use Rattle.border_climb.specs.declared.climbing.Met.{Met}
 use Rattle.border_climb.specs.Stands.{IsMet}
 use Rattle.border_climb.specs.Linked.{HasRank, Points, IsCellOf, AreLinked, AreLinkedFrom}
-use Rattle.border_climb.specs.Notes.{IsLive, AreOld, IsSound, IsClimbable, IsNote, IsNoted, LeadsUp, AreNoted}
-use Rattle.border_climb.specs.Splicing.{IsMerging, IsRelinked, IsSeam}
-use Rattle.border_climb.specs.Climbs.{IsClimbed}
+use Rattle.border_climb.specs.Notes.{IsLive, IsSound, IsClimbable, IsNoted, LeadsUp, AreNoted}
+use Rattle.border_climb.specs.Splicing.{IsMerging, IsSeam}
 use Rattle.border_climb.proofs.Linked.{cell-edge, met-chain, chain-met}
-use Rattle.border_climb.proofs.Merging.{KeepsRanks, points-kept, cell-kept, run-along}
-use Rattle.border_climb.proofs.Pools.{SameLinks, links-noted, links-back, rank-same, live-same, met-same, one-cell, seat-rank}
+use Rattle.border_climb.proofs.Merging.{KeepsRanks, points-kept, cell-kept}
+use Rattle.border_climb.proofs.Pools.{SameLinks, links-noted, links-back, rank-same, live-same, one-cell, seat-rank}
 
 -- what stands above a cell has a higher rank
 pub cell-rises : (pool : CellPool) (s : EdgeList) → AreApart s → (c : Cell) → IsCellOf pool s c → (j : ℕ) → c.up ≡ Some j → (b : Cell) × ((cell_at pool j ≡ Some b) × (c.rank < b.rank))

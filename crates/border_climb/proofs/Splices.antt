@@ -1,40 +1,40 @@
 -- The splice as a whole: from the climbs below the new edge's rank to the merged chains.
-use Rattle.std.proofs.Common.{◌≡◌, ◌≢◌, ℕ, suc, ◌+◌, ◌-◌, ◌<◌, ◌≤◌, ◌⊎◌, inl, inr, refl, sym, ◌∙◌, subst, ap, arith, List, [], ◌∷◌, set, get_or, length, nat_le, cond, min, ◌^◌, true, false, Bool}
+use Rattle.std.proofs.Common.{◌≡◌, ◌≢◌, ℕ, suc, ◌+◌, ◌-◌, ◌<◌, ◌≤◌, ◌⊎◌, inl, inr, refl, sym, ◌∙◌, subst, ap, arith, ◌∷◌, get_or, length, nat_le, min, ◌^◌, true, false}
 use Rattle.std.specs.Prelude.{Option, Some, None, IsSome, IfSome, filter}
-use Rattle.std.proofs.lemmas.Bool.{cases_Bool, cases_eq, cases_order, false_from_ne_true, true≢false, le-leb, leb-true}
-use Rattle.std.proofs.lemmas.List.{length-set, get_or-set_same, get_or-set_other}
-use Rattle.hg_base.specs.Edges.{ListedEdge, EdgeList, IsIn, AreApart, Joined, joined, below, joins, chain, first_edge, next}
+use Rattle.std.proofs.lemmas.Bool.{cases_Bool, cases_eq, cases_order, false_from_ne_true, le-leb, leb-true}
+use Rattle.std.proofs.lemmas.List.{get_or-set_same, get_or-set_other}
+use Rattle.hg_base.specs.Edges.{ListedEdge, EdgeList, IsIn, AreApart, joined, below, first_edge, next}
 use Rattle.hg_base.specs.Placed.{placed}
 use Rattle.hg_base.specs.declared.graph.PlacedEdge.{PlacedEdge}
 use Rattle.hg_base.specs.Splice.{IsRedundant}
 use Rattle.hg_base.proofs.Walks.{IsSame-joined, Joined-joined}
-use Rattle.hg_base.proofs.Sets.{joined_below-more, IsIn-joins_kept, IsIn-chain, IsIn-chain_kept, IsOnChain}
+use Rattle.hg_base.proofs.Sets.{IsIn-chain}
 use Rattle.hg_base.proofs.Fronts.{apart-one, joined-meet, MeetBelow}
 use Rattle.hg_base.proofs.Leaving.{leaves, row-same}
-use Rattle.hg_base.proofs.Next.{IsIn-leaving, IsIn-leaving_kept}
+use Rattle.hg_base.proofs.Next.{IsIn-leaving_kept}
 use Rattle.hg_base.proofs.Firsts.{IsBefore}
 use Rattle.hg_base.proofs.Merged.{next-row}
 use Rattle.hg_base.proofs.Meeting.{joined-by}
 use Rattle.hg_base.proofs.Drops.{joins-redundant, chain-redundant}
 use Rattle.hg_base.proofs.Ends.{IsBefore-to, next-is, next-quiet}
-use Rattle.node_region.specs.Pool.{CellPool, IsPool, count, IsCovered, IsUsed, entry, cell_at, leaf_of, turn_of, hint_of, finger_of, next_turn, with_taken}
+use Rattle.node_region.specs.Pool.{CellPool, IsPool, IsCovered, IsUsed, leaf_of, turn_of, hint_of, finger_of, next_turn, with_taken}
 use Rattle.node_region.specs.declared.cell.Cell.{Cell}
 use Rattle.node_region.specs.declared.cell.Hint.{Hint}
 use Rattle.border_climb.specs.declared.given.Given.{Given}
 use Rattle.border_climb.specs.declared.given.Given.TheVariants as answers
 use Rattle.border_climb.specs.Stands.{IsMet}
-use Rattle.border_climb.specs.Linked.{HasRank, Points, IsCellOf, AreLinked, AreBetween}
-use Rattle.border_climb.specs.Notes.{IsLive, AreOld, IsSound, LeadsUp, AreNoted}
+use Rattle.border_climb.specs.Linked.{HasRank, Points, AreLinked}
+use Rattle.border_climb.specs.Notes.{IsLive, IsSound, LeadsUp, AreNoted}
 use Rattle.border_climb.specs.Splicing.{IsLastCell, IsLast, IsOpened, IsSeam, IsMerged, IsLinkedList, IsSpliced, CanOpen, up_of}
-use Rattle.border_climb.specs.Climbs.{Ends, IsTopCell, IsTop, DiffersInNotes, with_up, opened_pool}
+use Rattle.border_climb.specs.Climbs.{Ends, IsTop, DiffersInNotes, opened_pool}
 use Rattle.border_climb.proofs.Linked.{cell-edge, next-behind, chain-met, linked-from}
 use Rattle.border_climb.proofs.Merging.{points-kept, cell-kept}
-use Rattle.border_climb.proofs.Opening.{IsOpening, opening, last-one}
+use Rattle.border_climb.proofs.Opening.{opening, last-one}
 use Rattle.border_climb.proofs.Pools.{entry-cases, SameLinks, links-differs, rank-same, met-same, one-cell}
 use Rattle.border_climb.proofs.Ways.{ends-same}
 use Rattle.border_climb.proofs.Seams.{noted-after, noted-sound, sound-noted_list}
 use Rattle.border_climb.proofs.Opens.{opened-with}
-use Rattle.border_climb.proofs.Writes.{entry-other, seam-at}
+use Rattle.border_climb.proofs.Writes.{seam-at}
 
 -- a link that leads to no cell of rank below r leads beyond r
 ends-after : (pool : CellPool) (s : EdgeList) (o : Option ℕ) (r : ℕ) (w : Option ListedEdge) → Points pool o w → Ends pool o r → ((f : ListedEdge) → w ≡ Some f → f.rank ≢ r) → IsBefore w r

@@ -1,26 +1,26 @@
 -- Two parts side by side.
-use Rattle.std.proofs.Common.{◌≡◌, ◌≢◌, ℕ, zero, suc, ◌+◌, ◌-◌, ◌^◌, ◌<◌, ◌≤◌, ◌⊎◌, inl, inr, refl, sym, ◌∙◌, subst, ap, arith, List, [], ◌∷◌, ◌++◌, length, map, get_or, length-append, nat_le, true, false}
+use Rattle.std.proofs.Common.{◌≡◌, ℕ, zero, suc, ◌+◌, ◌-◌, ◌^◌, ◌<◌, ◌≤◌, ◌⊎◌, inl, inr, refl, sym, ◌∙◌, subst, ap, arith, List, ◌++◌, length, map, get_or, length-append, nat_le, true}
 use Rattle.std.specs.Prelude.{Option, Some, None, IsSome, filter, nat_lt}
 use Rattle.std.proofs.lemmas.Bool.{cases_lt, cases_Bool, lt-ltb, le-ltb, le-leb, leb-true}
 use Rattle.std.proofs.lemmas.List.{length-map, get_or_append_left, get_or-append_right, get_or_past}
-use Rattle.hg_base.specs.Edges.{ListedEdge, EdgeList, IsIn, AreApart, joins, chain, first_edge, next}
+use Rattle.hg_base.specs.Edges.{ListedEdge, EdgeList, IsIn, joins, chain, first_edge, next}
 use Rattle.hg_base.specs.SideBySide.{SideBySide}
 use Rattle.hg_base.proofs.SideBySide.{chain-inside, chain-outside}
-use Rattle.hg_base.proofs.Components.{IsIn-append, IsIn-append_back}
+use Rattle.hg_base.proofs.Components.{IsIn-append_back}
 use Rattle.hg_base.proofs.Sets.{IsIn-joins, IsIn-joins_kept, IsIn-chain_kept}
-use Rattle.node_region.specs.Pool.{CellPool, IsPool, IsNextTo, count, IsCovered, IsUsed, entry, cell_at, leaf_of, turn_of, hint_of, finger_of, appended}
+use Rattle.node_region.specs.Pool.{CellPool, IsPool, IsNextTo, count, IsCovered, IsUsed, entry, cell_at, leaf_of, turn_of, appended}
 use Rattle.node_region.specs.declared.cell.Cell.{Cell}
 use Rattle.node_region.specs.declared.cell.Hint.{Hint}
 use Rattle.node_region.proofs.Entries.{entry-append_left, entry-append_right, entry-covered}
 use Rattle.border_climb.specs.Stands.{PartState, IsMet, Stands}
-use Rattle.border_climb.specs.Linked.{HasRank, Points, IsCellOf, AreLinked, AreBetween}
-use Rattle.border_climb.specs.Notes.{IsLive, AreOld, IsSound}
+use Rattle.border_climb.specs.Linked.{HasRank, Points, IsCellOf, AreLinked}
+use Rattle.border_climb.specs.Notes.{IsLive, IsSound}
 use Rattle.hg_base.specs.declared.graph.PlacedEdge.{PlacedEdge}
 use Rattle.hg_base.proofs.SideBySide.{AreApart-front}
 use Rattle.border_climb.specs.Splicing.{KeepsRange}
 use Rattle.border_climb.specs.Parts.{AreUnited, CanJoin, CanTake, SumsUp, listed}
 use Rattle.border_climb.proofs.Parts.{few-edges}
-use Rattle.border_climb.proofs.Linked.{own-chain, Stands-linked, linked-Stands, between-Stands}
+use Rattle.border_climb.proofs.Linked.{own-chain, Stands-linked, linked-Stands}
 use Rattle.border_climb.proofs.Merging.{points-kept}
 use Rattle.border_climb.proofs.Pools.{used-covered, used-cell, used-from}
 use Rattle.border_climb.proofs.Lots.{apart-across}

@@ -1,6 +1,6 @@
 -- The way up: what a climb meets, step by step.
-use Rattle.std.proofs.Common.{◌≡◌, ℕ, zero, suc, ◌<◌, ◌≤◌, ◌-◌, ◌^◌, ◌⊎◌, inl, inr, refl, sym, ◌∙◌, subst, ap, arith, cond, Bool, true, false, ◌==◌}
-use Rattle.std.specs.Prelude.{Option, Some, None, IsSome, IfSome}
+use Rattle.std.proofs.Common.{◌≡◌, ℕ, zero, ◌<◌, ◌≤◌, ◌-◌, ◌^◌, ◌⊎◌, inl, inr, refl, sym, ◌∙◌, subst, ap, arith, cond, Bool, ◌==◌}
+use Rattle.std.specs.Prelude.{Option, Some, None, IfSome}
 use Rattle.std.proofs.lemmas.Bool.{cases_Bool, eqb-true}
 use Rattle.node_region.specs.Pool.{CellPool, IsCovered, IsUsed, cell_at, leaf_of, turn_of, hint_of, finger_of, hinted_cell}
 use Rattle.node_region.specs.declared.cell.Cell.{Cell}
@@ -8,9 +8,9 @@ use Rattle.node_region.specs.declared.cell.Hint.{Hint}
 use Rattle.border_climb.specs.declared.climbing.Met.{Met}
 use Rattle.border_climb.specs.Stands.{IsMet}
 use Rattle.border_climb.specs.Linked.{HasRank}
-use Rattle.border_climb.specs.Notes.{IsLive, IsSound, IsClimbable, IsNote, IsNoted}
-use Rattle.border_climb.specs.Climbs.{Ends, IsBelow, IsNamed, IsFurther, IsReached, IsClimbed, IsStart, IsTopCell, IsTop}
-use Rattle.border_climb.proofs.Pools.{SameLinks, links-noted, links-back, met-same, rank-same, live-same, met-on, met-join, met-rises, one-cell, used-from}
+use Rattle.border_climb.specs.Notes.{IsSound, IsClimbable, IsNoted}
+use Rattle.border_climb.specs.Climbs.{Ends, IsBelow, IsNamed, IsFurther, IsReached, IsClimbed, IsStart, IsTopCell}
+use Rattle.border_climb.proofs.Pools.{SameLinks, met-same, rank-same, met-on, met-join, met-rises, one-cell, used-from}
 
 -- what a note means that is found
 pub named-found : (pool : CellPool) (mark : Option Hint) (h : Hint) (c : Cell) → mark ≡ Some h → hinted_cell pool h ≡ Some c → h.turn < 2 ^ 32 - 1 → IsNamed pool mark (record { id = h.cell; rank = c.rank })

@@ -1,25 +1,25 @@
 -- What the writes of a merge leave: links, cells given back, and the notes.
-use Rattle.std.proofs.Common.{◌≡◌, ◌≢◌, ℕ, suc, ◌+◌, ◌-◌, ◌<◌, ◌≤◌, ◌⊎◌, inl, inr, refl, sym, ◌∙◌, subst, ap, arith, ◌∷◌, List, set, length, nat_le, true, false}
+use Rattle.std.proofs.Common.{◌≡◌, ◌≢◌, ℕ, suc, ◌+◌, ◌-◌, ◌<◌, ◌≤◌, inl, inr, refl, sym, ◌∙◌, subst, ap, arith, List, set, length, nat_le}
 use Rattle.std.specs.Prelude.{Option, Some, None}
 use Rattle.std.specs.Option.{option_map_or}
 use Rattle.std.proofs.lemmas.Bool.{cases_Bool, cases_eq, leb-true}
 use Rattle.std.proofs.lemmas.List.{length-set}
-use Rattle.hg_base.specs.Edges.{ListedEdge, EdgeList, IsIn, chain, next}
+use Rattle.hg_base.specs.Edges.{ListedEdge, EdgeList, next}
 use Rattle.hg_base.proofs.Firsts.{IsBefore}
-use Rattle.hg_base.proofs.Ends.{next-is, needed}
-use Rattle.node_region.specs.Pool.{CellPool, IsCovered, entry, cell_at, leaf_of, turn_of, with_cell, with_given_back}
+use Rattle.hg_base.proofs.Ends.{needed}
+use Rattle.node_region.specs.Pool.{CellPool, entry, cell_at, turn_of, with_given_back}
 use Rattle.node_region.specs.declared.cell.Cell.{Cell}
 use Rattle.node_region.proofs.Entries.{entry-set_same, entry-set_other}
 use Rattle.border_climb.specs.declared.climbing.Met.{Met}
 use Rattle.border_climb.specs.declared.given.Given.TheVariants as answers
 use Rattle.border_climb.specs.Linked.{HasRank, Points}
 use Rattle.border_climb.specs.Notes.{IsNoted}
-use Rattle.border_climb.specs.Splicing.{IsMerging, KeepsLeafs, IsRelinked, IsDropped, IsSeam, IsMerged, KeepsRange, rank_of}
+use Rattle.border_climb.specs.Splicing.{IsRelinked, IsDropped, IsSeam, IsMerged, KeepsRange, rank_of}
 use Rattle.border_climb.specs.Climbs.{IsClimbed, with_up}
 use Rattle.border_climb.proofs.Linked.{chain-met}
 use Rattle.border_climb.proofs.Merging.{relinked-cases, relinked-ranks, merging-turned, run-along}
 use Rattle.border_climb.proofs.Closing.{apart-merging, close-single, close-both}
-use Rattle.border_climb.proofs.Pools.{links-noted, links-back, met-same, one-cell, seat-rank, used-covered}
+use Rattle.border_climb.proofs.Pools.{links-noted, met-same, one-cell, seat-rank, used-covered}
 use Rattle.border_climb.proofs.Seams.{SameNotes, seam-next, seam-linked, seam-noted, noted-fewer}
 
 -- another number has what it had

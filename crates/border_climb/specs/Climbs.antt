@@ -1,14 +1,13 @@
 -- What a climb meets.
-use Rattle.std.specs.Prelude.{◌≡◌, ℕ, ◌+◌, ◌<◌, ◌≤◌, ◌⊎◌, List, ◌∷◌, length, Option, Some, None}
+use Rattle.std.specs.Prelude.{◌≡◌, ℕ, ◌<◌, ◌≤◌, Option, Some, None}
 use Rattle.std.specs.Option.{option_map_or}
-use Rattle.node_region.specs.Pool.{CellPool, IsCovered, cell_at, leaf_of, turn_of, hint_of, finger_of, with_cell, with_leaf, with_taken}
+use Rattle.node_region.specs.Pool.{CellPool, cell_at, leaf_of, with_cell, with_leaf, with_taken}
 use Rattle.node_region.specs.declared.cell.Cell.{Cell}
 use Rattle.node_region.specs.declared.cell.Hint.{Hint}
 use Rattle.border_climb.specs.declared.climbing.Met.{Met}
 use Rattle.border_climb.specs.Stands.{IsMet}
 use Rattle.border_climb.specs.Linked.{HasRank}
-use Rattle.border_climb.specs.Notes.{IsLive, IsClimbable, IsNoted, IsSound}
-use Rattle.border_climb.specs.Splicing.{up_of}
+use Rattle.border_climb.specs.Notes.{IsLive}
 
 -- the link leads to no cell of rank below r
 abbrev pub Ends : CellPool → Option ℕ → ℕ → Type 0

@@ -1,5 +1,5 @@
 -- What is noted at cells and places of cells further up, to climb faster.
-use Rattle.std.specs.Prelude.{◌≡◌, ℕ, ◌<◌, ◌≤◌, ◌-◌, ◌^◌, ◌⊎◌, Option, Some}
+use Rattle.std.specs.Prelude.{◌≡◌, ℕ, ◌<◌, ◌≤◌, ◌-◌, ◌^◌, ◌⊎◌, Some}
 use Rattle.hg_base.specs.Edges.{ListedEdge, EdgeList, IsIn, chain}
 use Rattle.node_region.specs.Pool.{CellPool, IsCovered, cell_at, leaf_of, IsUsed, turn_of, hint_of, finger_of}
 use Rattle.node_region.specs.declared.cell.Cell.{Cell}

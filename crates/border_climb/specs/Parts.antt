@@ -1,11 +1,11 @@
 -- What the calls of a part promise.
-use Rattle.std.specs.Prelude.{◌≡◌, ◌≢◌, ◌↔◌, ℕ, zero, suc, ◌+◌, ◌*◌, ◌-◌, ◌<◌, ◌≤◌, ◌⊎◌, List, [], ◌++◌, length, map}
+use Rattle.std.specs.Prelude.{◌≡◌, ◌≢◌, ◌↔◌, ℕ, suc, ◌+◌, ◌≤◌, ◌⊎◌, List, [], ◌++◌, map}
 use Rattle.std.specs.Option.{option_map_or}
 use Rattle.std.specs.Prelude.{Option, None}
 use Rattle.hg_base.specs.Edges.{ListedEdge, EdgeList, IsIn, AreApart, Joined, below}
 use Rattle.hg_base.specs.declared.graph.PlacedEdge.{PlacedEdge}
 use Rattle.hg_base.specs.declared.graph.Room.{Room}
-use Rattle.node_region.specs.Pool.{CellPool, count, IsCovered, cell_at, fresh_pool, IsNextTo}
+use Rattle.node_region.specs.Pool.{CellPool, count, IsCovered, cell_at, fresh_pool}
 use Rattle.border_climb.specs.declared.given.Given.{Given}
 use Rattle.border_climb.specs.declared.given.Given.TheVariants as answers
 use Rattle.border_climb.specs.Stands.{PartState, Stands}

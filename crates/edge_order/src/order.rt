@@ -1,10 +1,11 @@
 ghost use Rattle.std.specs.Prelude.{◌≡◌, ℕ, ◌+◌, ◌<◌, ◌≤◌, ◌∷◌, [], ◌++◌, length, map, take, slice_get, Some, IfOk, All};
-ghost use Rattle.hg_base.specs.Graph.{JoinsTwo, weight};
+ghost use Rattle.hg_base.specs.Graph.{JoinsTwo, WeightedGraph, weight};
 ghost use Rattle.hg_base.specs.Rank.{numbers, number_at, rank, ranked};
 ghost use Rattle.edge_order.specs.Order.{order_of, number_at_rank, with_number, without_rank};
 ghost use Rattle.edge_order.specs.Tables.{keys_of, sorted_keys_of, ranks_of, listed_row, HasEnds};
 
 use hg_base::{Edge, Graph, OutOfMemory, RankedEdge};
+use rayon::prelude::*;
 use std::alloc::{AllocError, Global};
 use std::marker::Model;
 use std::thread::Threads;
@@ -50,11 +51,15 @@ fn keys(alloc: Global, graph: &Graph) -> Result<Vec<(u32, u32)>, AllocError>
 }
 
 /// The weight and the number of each edge, by rank.
-fn sorted_keys(alloc: Global, graph: &Graph) -> Result<Vec<(u32, u32)>, AllocError>
+fn sorted_keys(
+    rt: &(impl Threads + Sync),
+    alloc: Global,
+    graph: &Graph,
+) -> Result<Vec<(u32, u32)>, AllocError>
     ensures { IfOk result (λ v. v.items ≡ sorted_keys_of graph.now) }
 {
     let mut keys = keys(alloc, graph)?;
-    keys.sort_unstable();
+    par_sort_unstable(rt, &mut keys);
     Ok(keys)
 }
 
@@ -101,19 +106,23 @@ fn ranks_by_number(
 impl Order {
     /// The order of all edges of a graph. The error is want of memory.
     pub fn of(
-        _rt: &(impl Threads + Sync),
+        rt: &(impl Threads + Sync),
         alloc: Global,
         graph: &Graph,
     ) -> Result<Order, OutOfMemory>
         ensures { IfOk result (λ order. order ≡ order_of graph.now) }
     {
-        Order::from_graph(alloc, graph).map_err(|_| OutOfMemory)
+        Order::from_graph(rt, alloc, graph).map_err(|_| OutOfMemory)
     }
 
-    fn from_graph(alloc: Global, graph: &Graph) -> Result<Order, AllocError>
+    fn from_graph(
+        rt: &(impl Threads + Sync),
+        alloc: Global,
+        graph: &Graph,
+    ) -> Result<Order, AllocError>
         ensures { IfOk result (λ order. order ≡ order_of graph.now) }
     {
-        let keys = sorted_keys(alloc, graph)?;
+        let keys = sorted_keys(rt, alloc, graph)?;
         let edges = edges_by_rank(alloc, graph, &keys)?;
         let ranks = ranks_by_number(alloc, graph, &keys)?;
         Ok(Order {
@@ -127,6 +136,7 @@ impl Order {
     pub fn len(&self) -> u32
         ensures value { result ≡ length self.now.edges }
         ensures edges { result ≤ 4194304 }
+        ensures graph { (g : WeightedGraph) × (self.now ≡ order_of g) }
     {
         self.edges.len() as u32
     }

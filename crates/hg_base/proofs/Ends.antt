@@ -2,20 +2,19 @@
 use Rattle.std.proofs.Common.{◌≡◌, ℕ, suc, ◌<◌, ◌≤◌, Bool, true, false, inl, inr, refl, sym, ◌∙◌, subst, ap, arith, ◌∷◌, add-one}
 use Rattle.std.specs.Prelude.{◌||◌, Option, Some, None}
 use Rattle.std.proofs.lemmas.Bool.{cases_order, false_from_ne_true, le-ltb, lt-ltb, or_left, or_right, or_cases, and_from, true≢false}
-use Rattle.hg_base.specs.Edges.{ListedEdge, EdgeList, IsIn, AreEnds, AreApart, Joined, joined, below, joins, touches, chain, next, merged}
-use Rattle.hg_base.specs.Saliency.{MeetFirst}
+use Rattle.hg_base.specs.Edges.{ListedEdge, EdgeList, IsIn, AreEnds, AreApart, joined, below, joins, touches, chain, next, merged}
 use Rattle.hg_base.specs.Splice.{IsRedundant}
 use Rattle.hg_base.proofs.Link.{link_cases}
 use Rattle.hg_base.proofs.Walks.{IsSame-joined}
 use Rattle.hg_base.proofs.Members.{IsIn-below, IsIn-below_kept}
 use Rattle.hg_base.proofs.Sets.{joined-among, joined_below-more, IsIn-joins_kept, IsIn-chain, IsIn-chain_kept}
 use Rattle.hg_base.proofs.Fronts.{joined-step_with, joined-step_without}
-use Rattle.hg_base.proofs.Leaving.{leaves, joins_touching, xor_cases}
-use Rattle.hg_base.proofs.Next.{IsFirst, IsFirst-one, next-first, component-stays, IsIn-leaving}
+use Rattle.hg_base.proofs.Leaving.{leaves, joins_touching}
+use Rattle.hg_base.proofs.Next.{IsFirst, IsFirst-one, next-first, component-stays}
 use Rattle.hg_base.proofs.Firsts.{IsUpTo, IsBefore, IsBefore-below, first-quiet, first-higher}
-use Rattle.hg_base.proofs.Splice.{next-elsewhere, next-joined, next-before, next-at, next-past}
-use Rattle.hg_base.proofs.Merged.{Merging, next-merged, next-row, joined-to_end}
-use Rattle.hg_base.proofs.Drops.{joins-kept, not-Joined, holds, untrue}
+use Rattle.hg_base.proofs.Splice.{next-elsewhere, next-before, next-at, next-past}
+use Rattle.hg_base.proofs.Merged.{Merging, next-merged}
+use Rattle.hg_base.proofs.Drops.{joins-kept, not-Joined, holds}
 
 -- a rank up to one that is before the edge is before it
 pub IsBefore-to : (o : Option ListedEdge) (m n : ℕ) → m ≤ n → IsBefore o n → IsBefore o m

@@ -35,7 +35,7 @@ abbrev pub IsBelowToo : ℕ → EdgeList → ℕ → ℕ → Type 0
 IsBelowToo n s i j = (y : ℕ) → y < n → IsAbove (tree_of n s) i y → IsAbove (tree_of n s) j y
 
 -- a leaf is below no other leaf
-leaf-alone : (n : ℕ) (s : EdgeList) → AreApart s → (i y : ℕ) → i < n → y < n → IsAbove (tree_of n s) i y → i ≡ y
+pub leaf-alone : (n : ℕ) (s : EdgeList) → AreApart s → (i y : ℕ) → i < n → y < n → IsAbove (tree_of n s) i y → i ≡ y
 leaf-alone n s h i y lt lty a =
     elim (ancestor-path n s h y lty a.0) [
       | inl leaf ↦ sym a.1 ∙ leaf
@@ -43,7 +43,7 @@ leaf-alone n s h i y lt lty a =
     ]
 
 -- both ends of a joining edge are below its node
-below-ends : (n : ℕ) (s : EdgeList) → AreApart s → AreWithin n s → (e : ListedEdge) → IsIn e (joins s) →
+pub below-ends : (n : ℕ) (s : EdgeList) → AreApart s → AreWithin n s → (e : ListedEdge) → IsIn e (joins s) →
     IsAbove (tree_of n s) (n + place s e) e.u × IsAbove (tree_of n s) (n + place s e) e.v
 below-ends n s h within e i =
     let kept = IsIn-joins_kept s e i in
@@ -54,7 +54,7 @@ below-ends n s h within e i =
     )
 
 -- the ends of a joining edge aren't joined before it
-ends-apart : (s : EdgeList) (e : ListedEdge) → IsIn e (joins s) → joined (below s e.rank) e.u e.v ≡ true → ⊥
+pub ends-apart : (s : EdgeList) (e : ListedEdge) → IsIn e (joins s) → joined (below s e.rank) e.u e.v ≡ true → ⊥
 ends-apart s e i j = true≢false (sym (IsIn-joins_kept s e i).1 ∙ ap not j)
 
 -- an inner node has more below it than a leaf

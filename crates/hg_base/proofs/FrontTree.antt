@@ -106,7 +106,7 @@ above-made n s h e i j y lt = (down, up)
     up k = made-above n s h y lt e i (leaving-behind s h e i j y k)
 
 -- a leaf that no edge leaves yet is a component of its own
-component-leaf : (n : ℕ) (s : EdgeList) → AreApart s → (x k : ℕ) → x < n → IsStill s x 0 k → HasComponent (tree_of n s) n s x k x
+pub component-leaf : (n : ℕ) (s : EdgeList) → AreApart s → (x k : ℕ) → x < n → IsStill s x 0 k → HasComponent (tree_of n s) n s x k x
 component-leaf n s h x k lt still y lty = (down, up)
   where
     down : IsAbove (tree_of n s) x y → Joined (below s k) x y
@@ -123,7 +123,7 @@ component-leaf n s h x k lt still y lty = (down, up)
         (0, sym (joined-first_front s x y z))
 
 -- the vertices that the edges of rank below k join to x are those below the node of the last edge that left x's component
-component-made : (n : ℕ) (s : EdgeList) → AreApart s → (x k : ℕ) → (l : LastBelow s x k) → HasComponent (tree_of n s) n s (n + place s l.edge) k x
+pub component-made : (n : ℕ) (s : EdgeList) → AreApart s → (x k : ℕ) → (l : LastBelow s x k) → HasComponent (tree_of n s) n s (n + place s l.edge) k x
 component-made n s h x k l y lty = (down, up)
   where
     same : IsSame (joined (below s (suc l.edge.rank)))

@@ -12,6 +12,8 @@ pub mod Components
 pub mod Nodes
 pub mod Paths
 pub mod FrontTree
+pub mod TreeNodes
+pub mod BelowRanks
 pub mod FrontOnce
 pub mod Meeting
 pub mod SideBySide
@@ -25,5 +27,17 @@ pub mod Ranks
 pub mod Ranked
 pub mod LawForms
 pub mod Lines
+pub mod Climbs
+pub mod Tops
+pub mod Levels
+pub mod Passing
+pub mod Kept
+pub mod Weights
+pub mod Zones
+pub mod ZoneLevels
+pub mod Leasts
+pub mod KeyLabels
+pub mod Saliencies
+pub mod KeyClasses
 pub mod CountMore
 pub mod Ends

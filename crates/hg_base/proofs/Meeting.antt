@@ -124,7 +124,7 @@ lowest-meets n s h a b i la lb other low = go (ancestor-path n s h a la low.firs
     go p q = both (at low.first.0 a low.first.1 p) (at low.second.0 b low.second.1 q)
 
 -- an edge up to the first that joins a and b weighs no more than it
-up_to-weight : (s : EdgeList) → AreApart s → AreByWeight s → (z : ListedEdge) → IsIn z s → (f : ListedEdge) → IsIn f s → f.rank < suc z.rank → f.weight ≤ z.weight
+pub up_to-weight : (s : EdgeList) → AreApart s → AreByWeight s → (z : ListedEdge) → IsIn z s → (f : ListedEdge) → IsIn f s → f.rank < suc z.rank → f.weight ≤ z.weight
 up_to-weight s h by z i f j lt =
     elim (cases_order f.rank z.rank) [
       | inl level ↦ (let same : f ≡ z = apart-one s h f z j i level in let q : f.weight ≡ z.weight = ap (λ (x : ListedEdge). x.weight) same in omega arith)

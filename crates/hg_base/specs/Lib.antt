@@ -13,4 +13,8 @@ pub mod Outside
 pub mod Placed
 pub mod Labels
 pub mod LabelsFields
+pub mod Levels
+pub mod Zones
+pub mod Numbering
+pub mod Saliencies
 pub mod Rising

@@ -1,27 +1,39 @@
 -- What the bytes that a source gave say of the bytes that it had.
-use Rattle.std.proofs.Common.{◌≡◌, ℕ, ◌+◌, ◌<◌, ◌≤◌, List, ◌++◌, length, take, Option, Some, None, Result, Ok, Err, sym, ap, ◌∙◌, subst, arith, append-nil, length-append}
+use Rattle.std.proofs.Common.{◌≡◌, ℕ, ◌+◌, ◌-◌, ◌<◌, ◌≤◌, true, false, Bool, List, [], ◌∷◌, ◌++◌, length, take, drop, Option, Some, None, Result, Ok, Err, refl, sym, ap, ◌∙◌, subst, arith, append-nil, append_assoc, length-append}
 use Rattle.std.proofs.lemmas.Grind.{common_steps}
+use Rattle.std.proofs.lemmas.List.{length-take-le, length-drop, take-append-le}
+use Rattle.std.proofs.Math.Seq.{take-append-add}
+use borrow.Rule.Slice.PartMut.{put_mid, post_of, same_len_mid}
 use Rattle.std.proofs.KnownBytes.{Consumes-trans}
 use Rattle.std.specs.Io.KnownBytes.{Consumes, IsAtEnd}
-use Rattle.hg_base.specs.Graph.{WeightedGraph}
+use Rattle.hg_base.specs.Outside.{Rose}
 use Rattle.hg_base.specs.declared.fault.InputFault.{InputFault}
-use Rattle.graph_reader.specs.EdgeList.{edge_list}
-use Rattle.graph_reader.specs.Progress.{Progress, HasRead}
-use Rattle.higra_cli.specs.Feeding.{HasFedAll, StopsFeeding, EndsDecoding}
-use Rattle.higra_cli.specs.Reading.{Told, answer_of, status_for, too_long, EndsReading, GaveAtMost, GaveGraph, GaveTooMuch, IsFor, StopsReading}
+use Rattle.pgm_reader.specs.Pgm.{is_picture}
+use Rattle.higra_cli.specs.Feeding.{EndsDecoding, GaveToOneMore, HasBegun, HasFed, HasFedAll, HasRead, ReadsOn, StopsFeeding, reads_picture, taken}
+use Rattle.higra_cli.specs.Inputs.{input_of, read_as, read_of, too_long}
+use Rattle.higra_cli.specs.Reading.{Told, AreRead, EndsReading, GaveAll, GaveAtMost, GaveTooMuch, StopsReading}
+use Rattle.higra_cli.specs.declared.decoding.InputDecoder.{InputDecoder}
 use Rattle.higra_cli.specs.declared.input.Input.{Input}
 use Rattle.higra_cli.specs.declared.ending.Status.{Status}
 use Rattle.higra_cli.specs.declared.ending.Status.TheVariants as statuses
 
 -- the bytes of an input that isn't too long are read
-pub answer-short : (bytes : List ℕ) → length bytes ≤ 134217728 → answer_of bytes ≡ status_for (edge_list bytes)
-unfolding answer_of
-answer-short bytes h = grind (arith, common_steps)
+pub read-short : (bytes : List ℕ) → length bytes ≤ 134217728 → read_of bytes ≡ input_of bytes
+unfolding read_of
+read-short bytes h = grind (arith, common_steps)
 
 -- an input of more bytes is too long
-pub answer-long : (bytes : List ℕ) → 134217728 < length bytes → answer_of bytes ≡ statuses.Input too_long
-unfolding answer_of
-answer-long bytes h = grind (arith, common_steps)
+pub read-long : (bytes : List ℕ) → 134217728 < length bytes → read_of bytes ≡ Err too_long
+unfolding read_of
+read-long bytes h = grind (arith, common_steps)
+
+-- three bytes tell the form
+pub form-settled : (first more : List ℕ) → 3 ≤ length first → is_picture (first ++ more) ≡ is_picture first
+unfolding is_picture
+form-settled [] more h = absurd (omega (arith, h))
+form-settled (a ∷ []) more h = absurd (omega (arith, h))
+form-settled (a ∷ b ∷ []) more h = absurd (omega (arith, h))
+form-settled (a ∷ b ∷ c ∷ rest) more h = refl
 
 -- a source that is at its end gave all that it had
 pub gave_all : (old new : Option (List ℕ)) (bytes all : List ℕ) → Consumes old new bytes → IsAtEnd new → old ≡ Some all → all ≡ bytes
@@ -39,54 +51,126 @@ gave_some (Some xs) (Some ys) bytes all gave is =
     let same : all ≡ bytes ++ ys = cc in
     omega (arith, ap length same, length-append bytes ys)
 
--- the status for a source that was read to its end
-pub IsFor-read : (old new : Option (List ℕ)) (bytes : List ℕ) (read : Result WeightedGraph InputFault) → Consumes old new bytes → IsAtEnd new → length bytes ≤ 134217728 → edge_list bytes ≡ read → IsFor old (status_for read)
-IsFor-read old new bytes read gave ended short is all told =
-    let same : all ≡ bytes = gave_all old new bytes all gave ended told in
-    ap answer_of same ∙ answer-short bytes short ∙ ap status_for is
+-- what the bytes of a source give that was read to its end
+pub AreRead-all : (old new : Option (List ℕ)) (bytes : List ℕ) (read : Result Input InputFault) → GaveAll old new bytes → input_of bytes ≡ read → AreRead old read
+AreRead-all old new bytes read all is had told =
+    ap read_of (gave_all old new bytes had all.gave all.ended told) ∙ read-short bytes all.short ∙ is
 
--- the status for a source that gave one byte more than an input may have
-pub IsFor-long : (old new : Option (List ℕ)) (bytes : List ℕ) → GaveTooMuch old new bytes → IsFor old (statuses.Input too_long)
-IsFor-long old new bytes much all told =
-    let some : length bytes ≤ length all = gave_some old new bytes all much.gave told in
-    answer-long all (omega (arith, much.long))
+-- and of one that gave one byte more than an input may have
+pub AreRead-long : (old new : Option (List ℕ)) (bytes : List ℕ) → GaveTooMuch old new bytes → AreRead old (Err too_long)
+AreRead-long old new bytes much had told =
+    let some : length bytes ≤ length had = gave_some old new bytes had much.gave told in
+    read-long had (omega (arith, much.long, some))
 
--- the bytes so far, and a piece that is one byte too long
-pub too_much : (old middle new : Option (List ℕ)) (bytes buffer : List ℕ) (count : ℕ) → Consumes old middle bytes → Consumes middle new (take count buffer) → count ≤ length buffer → length bytes + count ≡ 134217729
-    → (all : List ℕ) × GaveTooMuch old new all
-too_much old middle new bytes buffer count before here within long =
+-- the bytes so far, and a piece that makes one byte too many
+pub one_more : (old middle new : Option (List ℕ)) (before after : ℕ) (more buffer : List ℕ) (count : ℕ) → Consumes old middle more → Consumes middle new (take count buffer) → count ≤ length buffer
+    → after ≡ before + length more → after + count ≡ 134217729 → (all : List ℕ) × (Consumes old new all × (before + length all ≡ 134217729))
+one_more old middle new before after more buffer count so_far here within fed long =
     let piece : length (take count buffer) ≡ count = grind (arith, common_steps) in
-    let sum : length (bytes ++ take count buffer) ≡ 134217729 = length-append bytes (take count buffer) ∙ ap (λ n. length bytes + n) piece ∙ long in
-    (bytes ++ take count buffer, record { gave = Consumes-trans old middle new bytes (take count buffer) before here; long = sum })
+    let sum : before + length (more ++ take count buffer) ≡ 134217729 = omega (arith, length-append more (take count buffer), piece, fed, long) in
+    (more ++ take count buffer, (Consumes-trans old middle new more (take count buffer) so_far here, sum))
 
--- that is at most one byte too much
-pub most_from_too_much : (old new : Option (List ℕ)) (bytes : List ℕ) → GaveTooMuch old new bytes → GaveAtMost 134217729 old new
-most_from_too_much old new bytes much = (bytes, (much.gave, omega (arith, much.long)))
+-- a buffer whose first bytes stay and behind them others are written
+pub front_more : (count more : ℕ) (buffer into : List ℕ) → count ≤ length buffer → more ≤ length into → take (count + more) (put_mid count (length buffer - count) buffer into) ≡ take count buffer ++ take more into
+front_more count more buffer into h k =
+    ap (λ (n : ℕ). take (n + more) (put_mid count (length buffer - count) buffer into)) (sym (length-take-le count buffer h))
+    ∙ take-append-add (take count buffer) (into ++ post_of count (length buffer - count) buffer) more
+    ∙ ap (λ (bytes : List ℕ). take count buffer ++ bytes) (take-append-le more into (post_of count (length buffer - count) buffer) k)
 
--- the status for an edge list
-pub IsFor-graph : (old new : Option (List ℕ)) (graph : WeightedGraph) → (bytes : List ℕ) × GaveGraph old new graph bytes → IsFor old statuses.Success
-IsFor-graph old new graph (bytes, read) = IsFor-read old new bytes (Ok graph) read.gave read.ended read.short read.spelled
+-- the bytes at the front of the buffer, and those of one more read
+pub first_more : (old middle new : Option (List ℕ)) (count more : ℕ) (buffer into : List ℕ) → count ≤ length buffer → more ≤ length into → Consumes old middle (take count buffer) → Consumes middle new (take more into)
+    → Consumes old new (take (count + more) (put_mid count (length buffer - count) buffer into))
+first_more old middle new count more buffer into h k so_far here =
+    subst (λ (bytes : List ℕ). Consumes old new bytes) (sym (front_more count more buffer into h k)) (Consumes-trans old middle new (take count buffer) (take more into) so_far here)
+
+-- the buffer keeps its length
+pub length-front : (count : ℕ) (buffer into : List ℕ) → count ≤ length buffer → length into ≡ length buffer - count → length (put_mid count (length buffer - count) buffer into) ≡ length buffer
+length-front count buffer into h long =
+    same_len_mid count (length buffer - count) buffer into (long ∙ sym (length-take-le (length buffer - count) (drop count buffer) (omega (arith, length-drop count buffer)) ))
+
+-- the bytes so far, and a piece through which the decoder read on
+pub fed_more : (old middle new : Told) (before between after : InputDecoder) (more buffer : List ℕ) (count : ℕ) → HasFed old middle before between more → Consumes middle.bytes new.bytes (take count buffer)
+    → ReadsOn between after (take count buffer) → count ≤ length buffer → taken between + count ≤ 134217728 → new.faults ≡ middle.faults → (all : List ℕ) × HasFed old new before after all
+fed_more old middle new before between after more buffer count fed here on within short quiet =
+    let piece : length (take count buffer) ≡ count = length-take-le count buffer within in
+    let whole : ReadsOn before after (more ++ take count buffer) = record {
+      form = on.form ∙ fed.on.form;
+      taken = omega (arith, on.taken, fed.on.taken, length-append more (take count buffer));
+      read = λ bytes h. subst (λ (bs : List ℕ). HasRead after bs) (append_assoc bytes more (take count buffer)) (on.read (bytes ++ more) (fed.on.read bytes h));
+    } in
+    (more ++ take count buffer, record {
+      gave = Consumes-trans old.bytes middle.bytes new.bytes more (take count buffer) fed.gave here;
+      on = whole;
+      short = omega (arith, on.taken, piece, short);
+      quiet = quiet ∙ fed.quiet;
+    })
+
+-- all that the source gave, where the piece isn't too long
+pub fed_most : (old middle new : Told) (before between : InputDecoder) (more buffer : List ℕ) (count : ℕ) → HasFed old middle before between more → Consumes middle.bytes new.bytes (take count buffer)
+    → count ≤ length buffer → taken between + count ≤ 134217729 → GaveToOneMore old new before
+fed_most old middle new before between more buffer count fed here within short =
+    let piece : length (take count buffer) ≡ count = length-take-le count buffer within in
+    (more ++ take count buffer, (Consumes-trans old.bytes middle.bytes new.bytes more (take count buffer) fed.gave here, omega (arith, length-append more (take count buffer), piece, fed.on.taken, short)))
 
 -- what ended the feeding ended the reading
-pub StopsReading-fed : (old new : Told) (status : Status) → StopsFeeding old new status → StopsReading old new status
-StopsReading-fed old new (statuses.Input fault) stopped =
-    (stopped.1.0, subst (λ (f : InputFault). IsFor old.bytes (statuses.Input f)) (sym stopped.0) (IsFor-long old.bytes new.bytes stopped.1.1.0 stopped.1.1.1))
-StopsReading-fed old new statuses.ReadFailed stopped = stopped
-StopsReading-fed old new statuses.OutOfMemory stopped = tt
-StopsReading-fed old new statuses.Success stopped = absurd stopped
-StopsReading-fed old new statuses.Usage stopped = absurd stopped
-StopsReading-fed old new statuses.WriteFailed stopped = absurd stopped
+pub StopsReading-fed : (old middle new : Told) (first : List ℕ) (before : InputDecoder) (status : Status) → HasBegun old middle first → taken before ≡ length first → StopsFeeding middle new before status → StopsReading old new status
+StopsReading-fed old middle new first before (statuses.Input fault) begun fed stopped =
+    let more = stopped.1.1 in
+    let much : GaveTooMuch old.bytes new.bytes (first ++ more.0) = record {
+      gave = Consumes-trans old.bytes middle.bytes new.bytes first more.0 begun.gave more.1.0;
+      long = length-append first more.0 ∙ ap (λ n. n + length more.0) (sym fed) ∙ more.1.1;
+    } in
+    (stopped.1.0 ∙ begun.quiet, subst (λ (f : InputFault). AreRead old.bytes (Err f)) (sym stopped.0) (AreRead-long old.bytes new.bytes (first ++ more.0) much))
+StopsReading-fed old middle new first before statuses.ReadFailed begun fed stopped = subst (λ (n : ℕ). Rose n new.faults) begun.quiet stopped
+StopsReading-fed old middle new first before statuses.OutOfMemory begun fed stopped = tt
+StopsReading-fed old middle new first before statuses.Success begun fed stopped = absurd stopped
+StopsReading-fed old middle new first before statuses.Usage begun fed stopped = absurd stopped
+StopsReading-fed old middle new first before statuses.WriteFailed begun fed stopped = absurd stopped
 
--- what was decoded of all that was fed ended the reading
-pub EndsReading-decoded : (old new : Told) (decoder : Progress) (result : Result Input Status) → HasFedAll old new decoder
-    → ((bytes : List ℕ) → HasRead decoder bytes → EndsDecoding (edge_list bytes) result) → EndsReading old new result
-EndsReading-decoded old new decoder result fed decoded = by_result result (decoded fed.0 fed.1.0.read)
-  where
-    by_result : (r : Result Input Status) → EndsDecoding (edge_list fed.0) r → EndsReading old new r
-    by_result (Ok input) read = (fed.1.0.quiet, (fed.0, record { gave = fed.1.0.gave; ended = fed.1.1; short = fed.1.0.short; spelled = read }))
-    by_result (Err (statuses.Input fault)) read = (fed.1.0.quiet, IsFor-read old.bytes new.bytes fed.0 (Err fault) fed.1.0.gave fed.1.1 fed.1.0.short read)
-    by_result (Err statuses.OutOfMemory) read = tt
-    by_result (Err statuses.Success) read = absurd read
-    by_result (Err statuses.Usage) read = absurd read
-    by_result (Err statuses.ReadFailed) read = absurd read
-    by_result (Err statuses.WriteFailed) read = absurd read
+-- what was decoded of all that was read ended the reading
+EndsReading-all : (old new : Told) (bytes : List ℕ) (result : Result Input Status) → new.faults ≡ old.faults → GaveAll old.bytes new.bytes bytes → EndsDecoding (input_of bytes) result → EndsReading old new result
+EndsReading-all old new bytes (Ok input) quiet all read = (quiet, (bytes, (all, read)))
+EndsReading-all old new bytes (Err (statuses.Input fault)) quiet all read = (quiet, AreRead-all old.bytes new.bytes bytes (Err fault) all read)
+EndsReading-all old new bytes (Err statuses.OutOfMemory) quiet all read = tt
+EndsReading-all old new bytes (Err statuses.Success) quiet all read = absurd read
+EndsReading-all old new bytes (Err statuses.Usage) quiet all read = absurd read
+EndsReading-all old new bytes (Err statuses.ReadFailed) quiet all read = absurd read
+EndsReading-all old new bytes (Err statuses.WriteFailed) quiet all read = absurd read
+
+-- what a decoder of this form answers about the bytes that it has read
+abbrev pub Decodes : InputDecoder → Result Input Status → Type 0
+Decodes d result = (bytes : List ℕ) → HasRead d bytes → EndsDecoding (read_as (reads_picture d) bytes) result
+
+EndsDecoding-form : (d : InputDecoder) (bytes : List ℕ) (result : Result Input Status) → reads_picture d ≡ is_picture bytes → HasRead d bytes → Decodes d result → EndsDecoding (input_of bytes) result
+EndsDecoding-form d bytes result form read decodes = subst (λ (b : Bool). EndsDecoding (read_as b bytes) result) form (decodes bytes read)
+
+-- a source of fewer than three bytes
+pub EndsReading-first : (old new : Told) (first : List ℕ) (fresh d : InputDecoder) (result : Result Input Status) → HasBegun old new first → length first < 3
+    → HasRead fresh [] → reads_picture fresh ≡ is_picture first → ReadsOn fresh d first → Decodes d result → EndsReading old new result
+EndsReading-first old new first fresh d result begun few none form on decodes =
+    let all : GaveAll old.bytes new.bytes first = record { gave = begun.gave; ended = begun.all few; short = omega (arith, begun.short) } in
+    EndsReading-all old new first result begun.quiet all (EndsDecoding-form d first result (on.form ∙ form) (on.read [] none) decodes)
+
+-- a source of three bytes or more
+pub EndsReading-decoded : (old middle new : Told) (first : List ℕ) (fresh before after : InputDecoder) (result : Result Input Status) → HasBegun old middle first → 3 ≤ length first
+    → HasRead fresh [] → taken fresh ≡ 0 → reads_picture fresh ≡ is_picture first → ReadsOn fresh before first → HasFedAll middle new before after → Decodes after result → EndsReading old new result
+EndsReading-decoded old middle new first fresh before after result begun some none zero form on fed decodes =
+    let more = fed.0 in
+    let had = fed.1.0 in
+    let all : GaveAll old.bytes new.bytes (first ++ more) = record {
+      gave = Consumes-trans old.bytes middle.bytes new.bytes first more begun.gave had.gave;
+      ended = fed.1.1;
+      short = omega (arith, length-append first more, had.on.taken, had.short, on.taken, zero);
+    } in
+    let settled : reads_picture after ≡ is_picture (first ++ more) = had.on.form ∙ on.form ∙ form ∙ sym (form-settled first more some) in
+    EndsReading-all old new (first ++ more) result (had.quiet ∙ begun.quiet) all
+    (EndsDecoding-form after (first ++ more) result settled (had.on.read first (on.read [] none)) decodes)
+
+-- a source gave no more than its first bytes
+pub most_from_first : (old new : Option (List ℕ)) → GaveAtMost 65536 old new → GaveAtMost 134217729 old new
+most_from_first old new gave = (gave.0, (gave.1.0, omega (arith, gave.1.1)))
+
+-- or the bytes that were fed behind them
+pub most_from_fed : (old middle new : Told) (first : List ℕ) (before : InputDecoder) → HasBegun old middle first → taken before ≡ length first → GaveToOneMore middle new before → GaveAtMost 134217729 old.bytes new.bytes
+most_from_fed old middle new first before begun fed gave =
+    (first ++ gave.0, (Consumes-trans old.bytes middle.bytes new.bytes first gave.0 begun.gave gave.1.0, omega (arith, length-append first gave.0, fed, gave.1.1)))

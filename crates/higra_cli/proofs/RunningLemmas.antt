@@ -1,7 +1,21 @@
 -- What the ends of a run come to.
-use Rattle.std.proofs.Common.{◌≡◌, ℕ, ◌≤◌, List, length, take_all, Option, Result, Ok, Err, OnOk, OnErr, sym, subst, arith}
+use Rattle.std.proofs.Common.{◌≡◌, ◌≢◌, ◌⊎◌, inl, inr, ℕ, ◌<◌, ◌≤◌, List, length, take_all, Option, Some, None, Result, Ok, Err, OnOk, OnErr, refl, sym, ap, ◌∙◌, subst, arith}
 use Rattle.std.specs.Io.KnownBytes.{Appends}
-use Rattle.hg_base.specs.Outside.{AppendsPrefix}
+use Rattle.hg_base.specs.Outside.{AppendsPrefix, Rose}
+use Rattle.hg_base.specs.declared.fault.InputFault.{InputFault}
+use Rattle.pgm_reader.specs.Generator.{made}
+use Rattle.higra_cli.proofs.ReadingLemmas.{AreRead-all}
+use Rattle.higra_cli.specs.Command.{requested}
+use Rattle.higra_cli.specs.Inputs.{graph_of, input_for}
+use Rattle.higra_cli.specs.Reading.{Told}
+use Rattle.higra_cli.specs.Reports.{refusal, report_of}
+use Rattle.higra_cli.specs.Running.{AreBytesOf, Ends, EndsWork, EndsWriting, GotInput, HasStatus, IsAnswerTo, IsFor, IsHierarchy, Reports, StoodStill, StopsGetting, Writes, answer_of, status_by, status_for}
+use Rattle.higra_cli.specs.declared.input.Input.{Input}
+use Rattle.higra_cli.specs.declared.input.Input.TheVariants.{Picture}
+use Rattle.higra_cli.specs.declared.request.Made.{Made}
+use Rattle.higra_cli.specs.declared.request.Request.{Request}
+use Rattle.higra_cli.specs.declared.ending.Status.{Status}
+use Rattle.higra_cli.specs.declared.ending.Status.TheVariants as statuses
 
 -- all of the bytes are a prefix of them
 pub AppendsPrefix-whole : (old new : Option (List ℕ)) (bytes : List ℕ) → Appends old new bytes → AppendsPrefix old new bytes
@@ -13,3 +27,106 @@ AppendsPrefix-whole old new bytes all =
 pub AppendsPrefix-either : {T E : Type 0} (r : Result T E) (old new : Option (List ℕ)) (bytes line : List ℕ) → bytes ≡ line → OnOk r (Appends old new bytes) → OnErr r (AppendsPrefix old new bytes) → AppendsPrefix old new line
 AppendsPrefix-either (Ok x) old new bytes line same all part = subst (λ (bs : List ℕ). AppendsPrefix old new bs) same (AppendsPrefix-whole old new bytes all)
 AppendsPrefix-either (Err e) old new bytes line same all part = subst (λ (bs : List ℕ). AppendsPrefix old new bs) same part
+
+-- the input that a request got is the input of the request
+input_for-got : (m : Option Made) (old new : Option (List ℕ)) (input : Input) → GotInput m old new input → (bytes : List ℕ) → AreBytesOf m old bytes → input_for m bytes ≡ Ok input
+input_for-got (Some m) old new input got bytes are = ap Ok (sym got.1)
+input_for-got None old new input got bytes are = AreRead-all old new got.0 (Ok input) got.1.0 got.1.1 bytes are
+
+-- so its status is that of the input
+IsFor-got : (request : Request) (old new : Option (List ℕ)) (input : Input) → GotInput request.made old new input → IsFor request old (status_by (refusal request input))
+unfolding answer_of
+IsFor-got request old new input got bytes are = ap (status_for request) (input_for-got request.made old new input got bytes are)
+
+-- a fault of what was read is the status
+IsFor-stopped : (request : Request) (m : Option Made) (old new : Told) (fault : InputFault) → request.made ≡ m → StopsGetting m old new (statuses.Input fault) → IsFor request old.bytes (statuses.Input fault)
+unfolding answer_of
+IsFor-stopped request (Some m) old new fault is stopped bytes are = cc
+IsFor-stopped request None old new fault is stopped bytes are =
+    let none : AreBytesOf None old.bytes bytes = subst (λ (o : Option Made). AreBytesOf o old.bytes bytes) is are in
+    ap (λ (o : Option Made). status_for request (input_for o bytes)) is ∙ ap (status_for request) (stopped.1 bytes none)
+
+-- what ended the getting of the input ends the run
+Ends-by : (words : List (List ℕ)) (request : Request) (m : Option Made) (old new out : Told) (status : Status) → requested words ≡ Some request → request.made ≡ m → StopsGetting m old new status → Ends words old new out out status
+Ends-by words request (Some m) old new out status asked is stopped = subst (λ (s : Status). Ends words old new out out s) (sym stopped) refl
+Ends-by words request None old new out (statuses.Input fault) asked is stopped = ((request, (asked, IsFor-stopped request None old new fault is stopped)), stopped.0, refl)
+Ends-by words request None old new out statuses.ReadFailed asked is stopped = ((request, asked), stopped, refl)
+Ends-by words request None old new out statuses.OutOfMemory asked is stopped = refl
+Ends-by words request None old new out statuses.Success asked is stopped = absurd stopped
+Ends-by words request None old new out statuses.Usage asked is stopped = absurd stopped
+Ends-by words request None old new out statuses.WriteFailed asked is stopped = absurd stopped
+
+pub Ends-stopped : (words : List (List ℕ)) (request : Request) (old new out : Told) (status : Status) → requested words ≡ Some request → StopsGetting request.made old new status → Ends words old new out out status
+Ends-stopped words request old new out status asked stopped = Ends-by words request request.made old new out status asked refl stopped
+
+-- the input is accepted
+HasStatus-success : (words : List (List ℕ)) (request : Request) (input : Input) (old new : Option (List ℕ)) → requested words ≡ Some request → GotInput request.made old new input → refusal request input ≡ None → HasStatus words old statuses.Success
+HasStatus-success words request input old new asked got accepted =
+    (request, (asked, subst (λ (o : Option InputFault). IsFor request old (status_by o)) accepted (IsFor-got request old new input got)))
+
+-- and something was done with its report
+Reports-done : (words : List (List ℕ)) (request : Request) (input : Input) (old new : Option (List ℕ)) (Done : List ℕ → Type 0) → requested words ≡ Some request → GotInput request.made old new input → Writes request input Done → Reports words old new Done
+Reports-done words request input old new Done asked got writes = record {
+  request = request;
+  asked = asked;
+  input = input;
+  got = got;
+  accepted = writes.accepted;
+  done = writes.done;
+  hierarchy = writes.hierarchy;
+}
+
+-- something was done with the bytes of a report
+pub reports_written : (request : Request) (input : Input) (Done : List ℕ → Type 0) (bytes : List ℕ) → refusal request input ≡ None → bytes ≡ report_of request input → Done bytes → IsHierarchy (graph_of input) → Writes request input Done
+reports_written request input Done bytes accepted are done hierarchy = record { accepted = accepted; done = subst Done are done; hierarchy = hierarchy }
+
+-- how the writing of the report ended the run
+pub Ends-written : {T : Type 0} (words : List (List ℕ)) (request : Request) (input : Input) (old new out out' : Told) (result : Result T Status) → requested words ≡ Some request → new.faults ≡ old.faults → GotInput request.made old.bytes new.bytes input
+    → EndsWriting request input out out' result → EndsWork words old new out out' result
+Ends-written words request input old new out out' (Ok done) asked quiet got ends =
+    (HasStatus-success words request input old.bytes new.bytes asked got ends.0.accepted, Reports-done words request input old.bytes new.bytes (Appends out.bytes out'.bytes) asked got ends.0, quiet, ends.1)
+Ends-written words request input old new out out' (Err statuses.WriteFailed) asked quiet got ends =
+    (HasStatus-success words request input old.bytes new.bytes asked got ends.0.accepted, Reports-done words request input old.bytes new.bytes (AppendsPrefix out.bytes out'.bytes) asked got ends.0, quiet, ends.1)
+Ends-written words request input old new out out' (Err (statuses.Input fault)) asked quiet got ends =
+    ((request, (asked, subst (λ (o : Option InputFault). IsFor request old.bytes (status_by o)) ends.0 (IsFor-got request old.bytes new.bytes input got))), quiet, ends.1)
+Ends-written words request input old new out out' (Err statuses.OutOfMemory) asked quiet got ends = ends
+Ends-written words request input old new out out' (Err statuses.Success) asked quiet got ends = absurd ends
+Ends-written words request input old new out out' (Err statuses.Usage) asked quiet got ends = absurd ends
+Ends-written words request input old new out out' (Err statuses.ReadFailed) asked quiet got ends = absurd ends
+
+-- the words give one request
+pub one_request : (words : List (List ℕ)) (a b : Request) → requested words ≡ Some a → requested words ≡ Some b → a ≡ b
+one_request words a b first second = cc
+
+pub made_of_one : (words : List (List ℕ)) (a b : Request) (m : Made) → requested words ≡ Some a → requested words ≡ Some b → b.made ≡ Some m → a.made ≡ Some m
+made_of_one words a b m first second is = ap (λ (r : Request). r.made) (one_request words a b first second) ∙ is
+
+-- getting an input ends in none of these
+pub stopped_other : (m : Option Made) (old new : Told) (status : Status) → StopsGetting m old new status → (status ≢ statuses.Success) × (status ≢ statuses.Usage)
+stopped_other (Some m) old new status stopped = (λ is. cc, λ is. cc)
+stopped_other None old new (statuses.Input fault) stopped = (λ is. cc, λ is. cc)
+stopped_other None old new statuses.ReadFailed stopped = (λ is. cc, λ is. cc)
+stopped_other None old new statuses.OutOfMemory stopped = (λ is. cc, λ is. cc)
+stopped_other None old new statuses.Success stopped = absurd stopped
+stopped_other None old new statuses.Usage stopped = absurd stopped
+stopped_other None old new statuses.WriteFailed stopped = absurd stopped
+
+-- the status of a request whose source has these bytes
+status-is : (words : List (List ℕ)) (left : Option (List ℕ)) (status : Status) (request : Request) (bytes : List ℕ) → HasStatus words left status → requested words ≡ Some request → AreBytesOf request.made left bytes → status ≡ answer_of request bytes
+status-is words left status request bytes has asked are =
+    let same : has.0 ≡ request = one_request words has.0 request has.1.0 asked in
+    sym (subst (λ (r : Request). IsFor r left status) same has.1.1 bytes are)
+
+-- where no read fails, the status is that one, unless memory ran out or the report wasn't written
+pub complete_from : (words : List (List ℕ)) (request : Request) (bytes : List ℕ) (old new out out' : Told) (status : Status) → Ends words old new out out' status → requested words ≡ Some request
+    → AreBytesOf request.made old.bytes bytes → StoodStill old.faults new.faults → IsAnswerTo request bytes status
+complete_from words request bytes old new out out' statuses.Success ends asked are still = inl (status-is words old.bytes statuses.Success request bytes ends.0 asked are)
+complete_from words request bytes old new out out' (statuses.Input fault) ends asked are still = inl (status-is words old.bytes (statuses.Input fault) request bytes ends.0 asked are)
+complete_from words request bytes old new out out' statuses.WriteFailed ends asked are still = inr (inr (refl, sym (status-is words old.bytes statuses.Success request bytes ends.0 asked are)))
+complete_from words request bytes old new out out' statuses.OutOfMemory ends asked are still = inr (inl refl)
+complete_from words request bytes old new out out' statuses.Usage ends asked are still = cc
+complete_from words request bytes old new out out' statuses.ReadFailed ends asked are still = absurd (risen old.faults new.faults still ends.1)
+  where
+    risen : (before after : ℕ) → StoodStill before after → Rose before after → ⊥
+    risen before after still (inl rose) = omega (arith, still.same)
+    risen before after still (inr ended) = omega (arith, still.below, ended.0)

@@ -8,8 +8,6 @@ use Rattle.higra_cli.specs.declared.ending.Status.{Status}
 use Rattle.higra_cli.specs.declared.ending.Status.TheVariants as statuses
 use Rattle.higra_cli.specs.declared.request.WordsFault.{WordsFault}
 use Rattle.higra_cli.specs.declared.request.WordsFault.TheVariants as words
-use Rattle.higra_cli.specs.declared.writing.RunFault.{RunFault}
-use Rattle.higra_cli.specs.declared.writing.RunFault.TheVariants as reports
 
 -- the code with which the program ends
 abbrev pub code_of : Status → ℕ
@@ -24,11 +22,6 @@ code_of statuses.OutOfMemory = 6
 abbrev pub status_of_words : WordsFault → Status
 status_of_words words.Usage = statuses.Usage
 status_of_words words.OutOfMemory = statuses.OutOfMemory
-
--- the status of a run whose report can't be made
-abbrev pub status_of_fault : RunFault → Status
-status_of_fault (reports.Input f) = statuses.Input f
-status_of_fault reports.OutOfMemory = statuses.OutOfMemory
 
 -- the name of a kind of fault
 abbrev pub name_of : FaultKind → List ℕ

@@ -1,38 +1,77 @@
 -- What feeding a source to a decoder comes to.
-use Rattle.std.specs.Prelude.{◌≡◌, ℕ, ◌≤◌, List, length, Result, Ok, Err}
+use Rattle.std.specs.Prelude.{◌≡◌, ℕ, ◌+◌, ◌<◌, ◌≤◌, Bool, true, false, List, ◌++◌, length, Result, Ok, Err}
 use Rattle.std.specs.Io.KnownBytes.{Consumes, IsAtEnd}
-use Rattle.hg_base.specs.Graph.{WeightedGraph}
 use Rattle.hg_base.specs.Outside.{Rose}
 use Rattle.hg_base.specs.declared.fault.InputFault.{InputFault}
-use Rattle.graph_reader.specs.Progress.{Progress, HasRead}
-use Rattle.higra_cli.specs.Reading.{Told, graph_of, too_long, GaveTooMuch}
+use Rattle.graph_reader.specs.Progress as edges
+use Rattle.pgm_reader.specs.Progress as pictures
+use Rattle.higra_cli.specs.Inputs.{too_long}
+use Rattle.higra_cli.specs.Reading.{Told}
+use Rattle.higra_cli.specs.declared.decoding.InputDecoder.{InputDecoder}
+use Rattle.higra_cli.specs.declared.decoding.InputDecoder.TheVariants as decoders
 use Rattle.higra_cli.specs.declared.input.Input.{Input}
 use Rattle.higra_cli.specs.declared.ending.Status.{Status}
 use Rattle.higra_cli.specs.declared.ending.Status.TheVariants as statuses
 
--- the source gave these bytes so far, and the decoder has read them
-pub record HasFed (old new : Told) (decoder : Progress) (bytes : List ℕ) : Type 0 where
-  pub gave : Consumes old.bytes new.bytes bytes
-  pub read : HasRead decoder bytes
-  pub short : length bytes ≤ 134217728
+-- the decoder reads a picture
+abbrev pub reads_picture : InputDecoder → Bool
+reads_picture (decoders.Edges d) = false
+reads_picture (decoders.Picture d) = true
+
+-- how many bytes the decoder was fed
+abbrev pub taken : InputDecoder → ℕ
+taken (decoders.Edges d) = d.taken
+taken (decoders.Picture d) = d.taken
+
+-- the decoder has read these bytes
+abbrev pub HasRead : InputDecoder → List ℕ → Type 0
+HasRead (decoders.Edges d) bytes = edges.HasRead d bytes
+HasRead (decoders.Picture d) bytes = pictures.HasRead d bytes
+
+-- the decoder read on from old to new through these bytes
+pub record ReadsOn (old new : InputDecoder) (more : List ℕ) : Type 0 where
+  pub form : reads_picture new ≡ reads_picture old
+  pub taken : taken new ≡ taken old + length more
+  pub read : (bytes : List ℕ) → HasRead old bytes → HasRead new (bytes ++ more)
+
+-- the source gave its first bytes: three at least, or all that it has
+pub record HasBegun (old new : Told) (first : List ℕ) : Type 0 where
+  pub gave : Consumes old.bytes new.bytes first
+  pub all : length first < 3 → IsAtEnd new.bytes
+  pub short : length first ≤ 65536
+  pub quiet : new.faults ≡ old.faults
+
+-- the source gave these bytes, and the decoder read on through them
+pub record HasFed (old new : Told) (before after : InputDecoder) (more : List ℕ) : Type 0 where
+  pub gave : Consumes old.bytes new.bytes more
+  pub on : ReadsOn before after more
+  pub short : taken after ≤ 134217728
   pub quiet : new.faults ≡ old.faults
 
 -- all of the source was fed
-abbrev pub HasFedAll : Told → Told → Progress → Type 0
-HasFedAll old new decoder = (bytes : List ℕ) × (HasFed old new decoder bytes × IsAtEnd new.bytes)
+abbrev pub HasFedAll : Told → Told → InputDecoder → InputDecoder → Type 0
+HasFedAll old new before after = (more : List ℕ) × (HasFed old new before after more × IsAtEnd new.bytes)
+
+-- the source gave bytes that are with those before them one more than an input may have
+abbrev pub GaveOneMore : Told → Told → InputDecoder → Type 0
+GaveOneMore old new before = (more : List ℕ) × (Consumes old.bytes new.bytes more × (taken before + length more ≡ 134217729))
+
+-- the source gave no more than that
+abbrev pub GaveToOneMore : Told → Told → InputDecoder → Type 0
+GaveToOneMore old new before = (more : List ℕ) × (Consumes old.bytes new.bytes more × (taken before + length more ≤ 134217729))
 
 -- feeding ended the run with this status
-abbrev pub StopsFeeding : Told → Told → Status → Type 0
-StopsFeeding old new (statuses.Input fault) = (fault ≡ too_long) × ((new.faults ≡ old.faults) × ((bytes : List ℕ) × GaveTooMuch old.bytes new.bytes bytes))
-StopsFeeding old new statuses.ReadFailed = Rose old.faults new.faults
-StopsFeeding old new statuses.OutOfMemory = Unit {0}
-StopsFeeding old new statuses.Success = ⊥
-StopsFeeding old new statuses.Usage = ⊥
-StopsFeeding old new statuses.WriteFailed = ⊥
+abbrev pub StopsFeeding : Told → Told → InputDecoder → Status → Type 0
+StopsFeeding old new before (statuses.Input fault) = (fault ≡ too_long) × ((new.faults ≡ old.faults) × GaveOneMore old new before)
+StopsFeeding old new before statuses.ReadFailed = Rose old.faults new.faults
+StopsFeeding old new before statuses.OutOfMemory = Unit {0}
+StopsFeeding old new before statuses.Success = ⊥
+StopsFeeding old new before statuses.Usage = ⊥
+StopsFeeding old new before statuses.WriteFailed = ⊥
 
--- what was read as an edge list gave an input, or ended the run
-abbrev pub EndsDecoding : Result WeightedGraph InputFault → Result Input Status → Type 0
-EndsDecoding read (Ok input) = read ≡ Ok (graph_of input)
+-- what was read gave an input, or ended the run
+abbrev pub EndsDecoding : Result Input InputFault → Result Input Status → Type 0
+EndsDecoding read (Ok input) = read ≡ Ok input
 EndsDecoding read (Err (statuses.Input fault)) = read ≡ Err fault
 EndsDecoding read (Err statuses.OutOfMemory) = Unit {0}
 EndsDecoding read (Err statuses.Success) = ⊥

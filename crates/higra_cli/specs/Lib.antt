@@ -2,8 +2,10 @@ pub mod Command
 pub mod Ending
 pub mod Feeding
 pub mod Given
+pub mod Inputs
 pub mod Ordered
 pub mod Reading
+pub mod Reports
 pub mod Request
 pub mod Running
 pub mod Spelled

@@ -5,7 +5,7 @@ use Rattle.std.specs.List.{list_all}
 use Rattle.std.specs.Str.{bytes_eq}
 use Rattle.std.specs.Str.Parse.{digits_value}
 use Rattle.higra_cli.specs.declared.request.Report.{Report}
-use Rattle.higra_cli.specs.declared.request.Report.TheVariants.{Tree}
+use Rattle.higra_cli.specs.declared.request.Report.TheVariants as reports
 use Rattle.higra_cli.specs.declared.request.Form.{Form}
 use Rattle.higra_cli.specs.declared.request.Form.TheVariants.{Text}
 use Rattle.higra_cli.specs.declared.request.Made.{Made}
@@ -59,7 +59,7 @@ tile_by = value_or 64 (number_in 1 1048576)
 abbrev pub workers_by : Option (List ℕ) → Option ℕ
 workers_by = value_or 4 (number_in 1 64)
 
--- the form with this name
+-- the form with this name; `pgm` is one where a report takes it, and none does so far
 abbrev pub form_named : List ℕ → Option Form
 form_named text = if bytes_eq text (codes "text") then Some Text else None
 
@@ -73,11 +73,23 @@ alone line report = if is_some line.kind || is_some line.level then None else So
 
 -- REPORT, with the options that this report takes
 abbrev pub report_by : CommandLine → Option Report
-report_by line = if bytes_eq line.report (codes "tree") then alone line Tree else None
+report_by line =
+    if bytes_eq line.report (codes "tree") then alone line reports.Tree
+    else (if bytes_eq line.report (codes "zones") then alone line reports.Zones
+    else (if bytes_eq line.report (codes "saliency") then alone line reports.Saliency else None))
 
--- `--make` and `--seed`: no picture is made, so neither is taken
-abbrev pub made_by : CommandLine → Option (Option Made)
-made_by line = if is_some line.make || is_some line.seed then None else Some None
+-- `--seed`: 0 to 4,294,967,295, or else 1
+abbrev pub seed_by : Option (List ℕ) → Option ℕ
+seed_by = value_or 1 (number_in 0 4294967295)
+
+-- `--make`, a side from 1 to 1,024, and `--seed`: the picture that is made, if one is; a seed needs a side
+abbrev pub made_by : Option (List ℕ) → Option (List ℕ) → Option (Option Made)
+made_by None None = Some None
+made_by None (Some seed) = None
+made_by (Some make) seed = do
+  side ← number_in 1 1024 make
+  seed ← seed_by seed
+  Some (Some (record { side = side; seed = seed }))
 
 -- the request of these texts, if they give one
 abbrev pub request_by : CommandLine → Option Request
@@ -86,5 +98,5 @@ request_by line = do
   tile ← tile_by line.tile
   workers ← workers_by line.workers
   form ← form_by line.form
-  made ← made_by line
+  made ← made_by line.make line.seed
   Some (record { report = report; tile = tile; workers = workers; form = form; made = made })

@@ -1,8 +1,21 @@
 -- What a run leaves behind, by how it ended.
-use Rattle.std.specs.Prelude.{◌≡◌, ◌⊎◌, ℕ, ◌-◌, ◌^◌, ◌<◌, ◌≤◌, List, Option, Some, None, Result, MatchResult}
+use Rattle.std.specs.Prelude.{◌≡◌, ◌⊎◌, ℕ, ◌-◌, ◌^◌, ◌<◌, ◌≤◌, List, length, Option, Some, None, Result, Ok, Err, MatchResult}
+use Rattle.std.specs.Io.KnownBytes.{Appends}
+use Rattle.hg_base.specs.Graph.{WeightedGraph}
 use Rattle.hg_base.specs.Outside.{Rose, AppendsPrefix}
-use Rattle.higra_cli.specs.Reading.{Told, GaveEdgeList, IsFor, answer_of}
+use Rattle.hg_base.specs.Rank.{ranked}
+use Rattle.hg_base.specs.Tree.{IsFrontTree, graph_tree}
+use Rattle.hg_base.specs.Saliency.{IsSaliency}
+use Rattle.hg_base.specs.Saliencies.{saliency}
+use Rattle.hg_base.specs.declared.fault.InputFault.{InputFault}
+use Rattle.pgm_reader.specs.Generator.{made}
 use Rattle.higra_cli.specs.Command.{requested}
+use Rattle.higra_cli.specs.Inputs.{graph_of, input_for}
+use Rattle.higra_cli.specs.Reading.{Told, GaveInput, StopsReading}
+use Rattle.higra_cli.specs.Reports.{refusal, report_of}
+use Rattle.higra_cli.specs.declared.input.Input.{Input}
+use Rattle.higra_cli.specs.declared.input.Input.TheVariants.{Picture}
+use Rattle.higra_cli.specs.declared.request.Made.{Made}
 use Rattle.higra_cli.specs.declared.request.Request.{Request}
 use Rattle.higra_cli.specs.declared.request.Form.TheVariants as forms
 use Rattle.higra_cli.specs.declared.ending.Status.{Status}
@@ -16,6 +29,11 @@ pub record CanReport (request : Request) : Type 0 where
   pub workers : request.workers ≤ 64
   pub form : request.form ≡ forms.Text
 
+-- the side of a picture that can be made
+pub record CanMake (m : Made) : Type 0 where
+  pub some : 1 ≤ m.side
+  pub most : m.side ≤ 1024
+
 -- the words give a request
 abbrev pub HasRequest : List (List ℕ) → Type 0
 HasRequest words = (request : Request) × (requested words ≡ Some request)
@@ -25,26 +43,98 @@ pub record StoodStill (before after : ℕ) : Type 0 where
   pub same : after ≡ before
   pub below : before < 2 ^ 64 - 1
 
--- the status for these bytes; or memory ran out, or the report that they ask for wasn't written
-abbrev pub IsAnswerTo : List ℕ → Status → Type 0
-IsAnswerTo bytes status = (status ≡ answer_of bytes) ⊎ ((status ≡ statuses.OutOfMemory) ⊎ ((status ≡ statuses.WriteFailed) × (answer_of bytes ≡ statuses.Success)))
+-- the input of a request: the picture that it has made, and then its source gave nothing; or else what its source gave to its end
+abbrev pub GotInput : Option Made → Option (List ℕ) → Option (List ℕ) → Input → Type 0
+GotInput (Some m) old new input = (new ≡ old) × (input ≡ Picture (made m.side m.seed))
+GotInput None old new input = GaveInput old new input
 
--- a prefix of some report was appended
-abbrev pub AppendsSome : Option (List ℕ) → Option (List ℕ) → Type 0
-AppendsSome old new = (report : List ℕ) × AppendsPrefix old new report
+-- getting an input ended the run with this status
+abbrev pub StopsGetting : Option Made → Told → Told → Status → Type 0
+StopsGetting (Some m) old new status = status ≡ statuses.OutOfMemory
+StopsGetting None old new status = StopsReading old new status
+
+-- getting the input of a request gave it, or ended the run
+abbrev pub EndsGetting : Option Made → Told → Told → Result Input Status → Type 0
+EndsGetting made old new result =
+    MatchResult result
+    (λ input. (new.faults ≡ old.faults) × GotInput made old.bytes new.bytes input)
+    (StopsGetting made old new)
+
+-- the bytes of a request's source, where it tells them; whatever they are where a picture is made
+abbrev pub AreBytesOf : Option Made → Option (List ℕ) → List ℕ → Type 0
+AreBytesOf (Some m) left bytes = Unit {0}
+AreBytesOf None left bytes = left ≡ Some bytes
+
+-- the status for an input that is refused for this reason, or isn't
+abbrev pub status_by : Option InputFault → Status
+status_by None = statuses.Success
+status_by (Some fault) = statuses.Input fault
+
+-- the status for what was read
+abbrev pub status_for : Request → Result Input InputFault → Status
+status_for request (Ok input) = status_by (refusal request input)
+status_for request (Err fault) = statuses.Input fault
+
+-- the status of a request whose source has these bytes, where nothing fails
+unfoldable pub answer_of : Request → List ℕ → Status
+answer_of request bytes = status_for request (input_for request.made bytes)
+
+-- where the source tells its bytes, this is the status for them
+abbrev pub IsFor : Request → Option (List ℕ) → Status → Type 0
+IsFor request left status = (bytes : List ℕ) → AreBytesOf request.made left bytes → answer_of request bytes ≡ status
+
+-- the status for these bytes; or memory ran out, or the report that they ask for wasn't written
+abbrev pub IsAnswerTo : Request → List ℕ → Status → Type 0
+IsAnswerTo request bytes status =
+    (status ≡ answer_of request bytes) ⊎ ((status ≡ statuses.OutOfMemory) ⊎ ((status ≡ statuses.WriteFailed) × (answer_of request bytes ≡ statuses.Success)))
+
+-- the nodes of a graph's tree are the components of its fronts, each once, and the saliency of each edge is the least weight that joins its ends
+pub record IsHierarchy (g : WeightedGraph) : Type 0 where
+  pub nodes : IsFrontTree (graph_tree g) g.n (ranked g)
+  pub saliencies : (e : ℕ) → e < length g.edges → IsSaliency g e (saliency g e)
+
+-- The words gave a request, its input is accepted, and this was done with exactly the report that was asked for.
+pub record Reports (words : List (List ℕ)) (old new : Option (List ℕ)) (Done : List ℕ → Type 0) : Type 0 where
+  pub request : Request
+  pub asked : requested words ≡ Some request
+  pub input : Input
+  pub got : GotInput request.made old new input
+  pub accepted : refusal request input ≡ None
+  pub done : Done (report_of request input)
+  pub hierarchy : IsHierarchy (graph_of input)
+
+-- The input is accepted, and this was done with exactly the report that was asked for.
+pub record Writes (request : Request) (input : Input) (Done : List ℕ → Type 0) : Type 0 where
+  pub accepted : refusal request input ≡ None
+  pub done : Done (report_of request input)
+  pub hierarchy : IsHierarchy (graph_of input)
+
+-- how the making and the writing of a report left the sink
+abbrev pub EndsWriting : {T : Type 0} → Request → Input → Told → Told → Result T Status → Type 0
+EndsWriting request input out out' (Ok done) = Writes request input (Appends out.bytes out'.bytes) × (out'.faults ≡ out.faults)
+EndsWriting request input out out' (Err (statuses.Input fault)) = (refusal request input ≡ Some fault) × (out'.faults ≡ out.faults)
+EndsWriting request input out out' (Err statuses.WriteFailed) = Writes request input (AppendsPrefix out.bytes out'.bytes) × Rose out.faults out'.faults
+EndsWriting request input out out' (Err statuses.OutOfMemory) = out'.faults ≡ out.faults
+EndsWriting request input out out' (Err statuses.Success) = ⊥
+EndsWriting request input out out' (Err statuses.Usage) = ⊥
+EndsWriting request input out out' (Err statuses.ReadFailed) = ⊥
+
+-- the words gave a request, and this is its status
+abbrev pub HasStatus : List (List ℕ) → Option (List ℕ) → Status → Type 0
+HasStatus words left status = (request : Request) × ((requested words ≡ Some request) × IsFor request left status)
 
 -- how a run on these words left its source and its sink, by its status
 abbrev pub Ends : List (List ℕ) → Told → Told → Told → Told → Status → Type 0
 Ends words source source' out out' statuses.Success =
-    HasRequest words × GaveEdgeList source.bytes source'.bytes × IsFor source.bytes statuses.Success × (source'.faults ≡ source.faults) × (out'.faults ≡ out.faults)
+    HasStatus words source.bytes statuses.Success × Reports words source.bytes source'.bytes (Appends out.bytes out'.bytes) × (source'.faults ≡ source.faults) × (out'.faults ≡ out.faults)
 Ends words source source' out out' statuses.Usage =
     (requested words ≡ None) × (source'.faults ≡ source.faults) × (out'.faults ≡ out.faults)
 Ends words source source' out out' (statuses.Input fault) =
-    HasRequest words × IsFor source.bytes (statuses.Input fault) × (source'.faults ≡ source.faults) × (out'.faults ≡ out.faults)
+    HasStatus words source.bytes (statuses.Input fault) × (source'.faults ≡ source.faults) × (out'.faults ≡ out.faults)
 Ends words source source' out out' statuses.ReadFailed =
     HasRequest words × Rose source.faults source'.faults × (out'.faults ≡ out.faults)
 Ends words source source' out out' statuses.WriteFailed =
-    HasRequest words × IsFor source.bytes statuses.Success × (source'.faults ≡ source.faults) × Rose out.faults out'.faults × AppendsSome out.bytes out'.bytes
+    HasStatus words source.bytes statuses.Success × Reports words source.bytes source'.bytes (AppendsPrefix out.bytes out'.bytes) × (source'.faults ≡ source.faults) × Rose out.faults out'.faults
 Ends words source source' out out' statuses.OutOfMemory = out'.faults ≡ out.faults
 
 -- the same of what all but the fault line answered: an error is the status

@@ -3,7 +3,6 @@ ghost use Rattle.std.specs.Prelude.{◌≡◌};
 ghost use Rattle.higra_cli.specs.Ending.{code_of};
 
 use super::request::WordsFault;
-use super::writing::RunFault;
 use hg_base::{InputFault, OutOfMemory};
 use std::alloc::AllocError;
 
@@ -72,20 +71,6 @@ impl From<WordsFault> for Status {
         match fault {
             WordsFault::Usage => Status::Usage,
             WordsFault::OutOfMemory => Status::OutOfMemory,
-        }
-    }
-}
-
-impl From<RunFault> for Status {
-    ghost use Rattle.std.specs.Prelude.{◌≡◌};
-    ghost use Rattle.higra_cli.specs.Ending.{status_of_fault};
-
-    ghost from_gives = { λ fault status. status ≡ status_of_fault fault };
-
-    fn from(fault: RunFault) -> Status {
-        match fault {
-            RunFault::Input(fault) => Status::Input(fault),
-            RunFault::OutOfMemory => Status::OutOfMemory,
         }
     }
 }

@@ -2,6 +2,7 @@
 #![tactic(auto)]
 
 mod command;
+mod decoding;
 mod ending;
 mod input;
 pub mod laws;

@@ -2,9 +2,10 @@
 ghost use Rattle.std.specs.Prelude.{◌≡◌, ◌≤◌, IfSome, option_map};
 ghost use Rattle.std.specs.Char.{is_ascii_digit};
 ghost use Rattle.std.specs.List.{list_all};
-ghost use Rattle.higra_cli.specs.Request.{form_by, form_named, is_number, number, number_in, tile_by, workers_by};
+ghost use Rattle.higra_cli.specs.Request.{form_by, form_named, is_number, made_by, number, number_in, seed_by, tile_by, workers_by};
+ghost use Rattle.higra_cli.specs.Running.{CanMake};
 
-use super::request::Form;
+use super::request::{Form, Made};
 
 // The most digits of a number.
 const MOST_DIGITS: usize = 20;
@@ -43,7 +44,32 @@ pub(crate) fn form_by(text: Option<&str>) -> Option<Form>
     }
 }
 
-// The form with this name.
+/// `--make` and `--seed`: the picture that is made, if one is. A seed needs a side.
+pub(crate) fn made_by(make: Option<&str>, seed: Option<&str>) -> Option<Option<Made>>
+    ensures value { result ≡ made_by (option_map (λ s. s.now) make.entry) (option_map (λ s. s.now) seed.entry) }
+    ensures can_make { IfSome result (λ made. IfSome made CanMake) }
+{
+    match make {
+        None if seed.is_some() => None,
+        None => Some(None),
+        Some(side) => Some(Some(Made {
+            side: number_in(side, 1, 1024)?,
+            seed: seed_by(seed)?,
+        })),
+    }
+}
+
+// `--seed`: from where the samples of a picture are made.
+fn seed_by(text: Option<&str>) -> Option<u32>
+    ensures { result ≡ seed_by (option_map (λ s. s.now) text.entry) }
+{
+    match text {
+        None => Some(1),
+        Some(text) => number_in(text, 0, u32::MAX),
+    }
+}
+
+// The form with this name. `pgm` is one where a report takes it, and none does so far.
 fn form_named(text: &str) -> Option<Form>
     ensures { result ≡ form_named text.now }
 {

@@ -1,16 +1,14 @@
 // Reading a source to its end.
-ghost use Rattle.std.specs.Prelude.{◌≤◌, ◌<◌, ℕ, List, [], length, IfOk, MatchResult};
+ghost use Rattle.std.specs.Prelude.{◌≡◌, ◌≤◌, ◌<◌, length, take, IfOk, MatchResult};
 ghost use Rattle.std.specs.Io.KnownBytes.{ReadConsumes};
 ghost use Rattle.hg_base.specs.Outside.{HasCause};
-ghost use Rattle.graph_reader.specs.EdgeList.{edge_list};
-ghost use Rattle.graph_reader.specs.Progress.{HasRead};
-ghost use Rattle.higra_cli.specs.Feeding.{EndsDecoding, HasFedAll, StopsFeeding};
+ghost use Rattle.higra_cli.specs.Feeding.{GaveToOneMore, HasBegun, HasFedAll, StopsFeeding, taken};
 ghost use Rattle.higra_cli.specs.Reading.{EndsReading, GaveAtMost, told};
 
+use super::decoding::InputDecoder;
 use super::ending::Status;
 use super::input::Input;
-use graph_reader::Decoder;
-use hg_base::{Failed, FaultKind, InputFault, ReadError, Source};
+use hg_base::{Failed, FaultKind, InputFault, Source};
 use std::alloc::Global;
 
 // The most bytes of an input.
@@ -19,8 +17,11 @@ const MOST_BYTES: u64 = 134_217_728;
 // The most bytes that one read asks for.
 const PIECE: usize = 65_536;
 
+// How many first bytes tell the form of an input.
+const FORM_BYTES: usize = 3;
+
 /// Reads the source to its end, or one byte past the most bytes of an input. It is read to its end
-/// also where its first bytes can't begin an edge list.
+/// also where its first bytes have a fault already.
 ///
 /// An error is the status with which the run ends.
 pub(crate) fn read_input<S: Source>(alloc: Global, source: &mut S) -> Result<Input, Status>
@@ -28,48 +29,66 @@ pub(crate) fn read_input<S: Source>(alloc: Global, source: &mut S) -> Result<Inp
     ensures most { GaveAtMost 134217729 (S.left source.old) (S.left source.new) }
 {
     let mut buffer = vec![in alloc; 0u8; PIECE]?;
-    let decoder = Decoder::new(alloc)?;
-    read_through(source, decoder, &mut buffer)
+    read_through(alloc, source, &mut buffer)
 }
 
-// Reads the source through to its end.
+// Reads the source through to its end: its first bytes, by which the decoder is chosen, and then the others.
 fn read_through<S: Source>(
+    alloc: Global,
     source: &mut S,
-    mut decoder: Decoder,
     buffer: &mut [u8],
 ) -> Result<Input, Status>
-    requires fresh { HasRead decoder [] }
-    requires room { 0 < length buffer.old }
+    requires room { 3 ≤ length buffer.old }
+    requires piece { length buffer.old ≤ 65536 }
     ensures ends { EndsReading (told (S.left source.old) (S.faults source.old)) (told (S.left source.new) (S.faults source.new)) result }
     ensures most { GaveAtMost 134217729 (S.left source.old) (S.left source.new) }
 {
+    let Ok(count) = first_bytes(source, buffer) else {
+        return Err(Status::ReadFailed);
+    };
+    let first = &buffer[..count];
+    let mut decoder = InputDecoder::new(alloc, first)?;
+    decoder.feed(first)?;
+    if count < FORM_BYTES {
+        return decoder.finish();
+    }
     match feed_all(source, &mut decoder, buffer) {
-        Ok(()) => finish(decoder),
+        Ok(()) => decoder.finish(),
         Err(status) => Err(status),
     }
 }
 
-// What was fed, as an input.
-fn finish(decoder: Decoder) -> Result<Input, Status>
-    ensures { (bytes : List ℕ) → HasRead decoder bytes → EndsDecoding (edge_list bytes) result }
+// Moves the first bytes of the source to the front of the buffer: three at least, or all that there are.
+fn first_bytes<S: Source>(source: &mut S, buffer: &mut [u8]) -> Result<usize, Failed>
+    requires room { 3 ≤ length buffer.old }
+    requires piece { length buffer.old ≤ 65536 }
+    ensures length { length buffer.new ≡ length buffer.old }
+    ensures within { IfOk result (λ n. n ≤ length buffer.new) }
+    ensures begun { IfOk result (λ n. HasBegun (told (S.left source.old) (S.faults source.old)) (told (S.left source.new) (S.faults source.new)) (take n buffer.new)) }
+    ensures most { GaveAtMost 65536 (S.left source.old) (S.left source.new) }
+    ensures cause { HasCause (S.faults source.old) (S.faults source.new) result }
 {
-    match decoder.finish() {
-        Ok(graph) => Ok(Input::Edges(graph)),
-        Err(ReadError::Fault(fault)) => Err(Status::Input(fault)),
-        Err(ReadError::OutOfMemory) => Err(Status::OutOfMemory),
+    let mut count = 0;
+    while count < FORM_BYTES {
+        let more = source.read(&mut buffer[count..])?;
+        if more == 0 {
+            return Ok(count);
+        }
+        count += more;
     }
+    Ok(count)
 }
 
-// Feeds the source to the decoder, in the pieces that it gives.
+// Feeds the rest of the source to the decoder, in the pieces that it gives.
 fn feed_all<S: Source>(
     source: &mut S,
-    decoder: &mut Decoder,
+    decoder: &mut InputDecoder,
     buffer: &mut [u8],
 ) -> Result<(), Status>
-    requires fresh { HasRead decoder.old [] }
+    requires short { taken decoder.old ≤ 134217728 }
     requires room { 0 < length buffer.old }
-    ensures ends { MatchResult result (λ _. HasFedAll (told (S.left source.old) (S.faults source.old)) (told (S.left source.new) (S.faults source.new)) decoder.new) (StopsFeeding (told (S.left source.old) (S.faults source.old)) (told (S.left source.new) (S.faults source.new))) }
-    ensures most { GaveAtMost 134217729 (S.left source.old) (S.left source.new) }
+    ensures ends { MatchResult result (λ _. HasFedAll (told (S.left source.old) (S.faults source.old)) (told (S.left source.new) (S.faults source.new)) decoder.old decoder.new) (StopsFeeding (told (S.left source.old) (S.faults source.old)) (told (S.left source.new) (S.faults source.new)) decoder.old) }
+    ensures most { GaveToOneMore (told (S.left source.old) (S.faults source.old)) (told (S.left source.new) (S.faults source.new)) decoder.old }
 {
     loop {
         let most = MOST_BYTES + 1 - decoder.taken();

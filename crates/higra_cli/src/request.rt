@@ -3,11 +3,11 @@ ghost use Rattle.std.specs.Prelude.{◌≡◌, IfOk, IfSome};
 ghost use Rattle.clap.specs.Words.{found_of, rows_of};
 ghost use Rattle.higra_cli.specs.Command.{request_in, requested};
 ghost use Rattle.higra_cli.specs.Given.{texts_of};
-ghost use Rattle.higra_cli.specs.Request.{alone, made_by, report_by, request_by};
-ghost use Rattle.higra_cli.specs.Running.{CanReport};
+ghost use Rattle.higra_cli.specs.Request.{alone, report_by, request_by};
+ghost use Rattle.higra_cli.specs.Running.{CanMake, CanReport};
 
 use super::command::{Given, matches_on, texts_in};
-use super::options::{form_by, tile_by, workers_by};
+use super::options::{form_by, made_by, tile_by, workers_by};
 use super::words::Words;
 use clap::ArgMatches;
 use std::alloc::{AllocError, Global};
@@ -17,6 +17,10 @@ use std::alloc::{AllocError, Global};
 pub enum Report {
     /// The binary partition tree of the graph.
     Tree,
+    /// The quasi-flat zones of the tree.
+    Zones,
+    /// The saliency of each edge.
+    Saliency,
 }
 
 /// The form of a report.
@@ -75,6 +79,7 @@ impl From<AllocError> for WordsFault {
 pub fn request_of(alloc: Global, words: &Words) -> Result<Request, WordsFault>
     ensures request { IfOk result (λ request. requested words.now ≡ Some request) }
     ensures can_report { IfOk result CanReport }
+    ensures can_make { IfOk result (λ request. IfSome request.made CanMake) }
     ensures usage { result ≡ Err WordsFault.Usage → requested words.now ≡ None }
 {
     let line = words.behind(alloc, "higra")?;
@@ -89,6 +94,7 @@ pub fn request_of(alloc: Global, words: &Words) -> Result<Request, WordsFault>
 fn request_in(matches: &ArgMatches) -> Option<Request>
     ensures request { result ≡ request_in (rows_of (found_of matches.now)) }
     ensures can_report { IfSome result CanReport }
+    ensures can_make { IfSome result (λ request. IfSome request.made CanMake) }
 {
     let given = texts_in(matches)?;
     request_by(&given)
@@ -98,13 +104,14 @@ fn request_in(matches: &ArgMatches) -> Option<Request>
 fn request_by(given: &Given) -> Option<Request>
     ensures request { result ≡ request_by (texts_of given.now) }
     ensures can_report { IfSome result CanReport }
+    ensures can_make { IfSome result (λ request. IfSome request.made CanMake) }
 {
     Some(Request {
         report: report_by(given)?,
         tile: tile_by(given.tile)?,
         workers: workers_by(given.workers)?,
         form: form_by(given.form)?,
-        made: made_by(given)?,
+        made: made_by(given.make, given.seed)?,
     })
 }
 
@@ -114,6 +121,8 @@ fn report_by(given: &Given) -> Option<Report>
 {
     match given.report {
         "tree" => alone(given, Report::Tree),
+        "zones" => alone(given, Report::Zones),
+        "saliency" => alone(given, Report::Saliency),
         _ => None,
     }
 }
@@ -126,16 +135,5 @@ fn alone(given: &Given, report: Report) -> Option<Report>
         None
     } else {
         Some(report)
-    }
-}
-
-// `--make` and `--seed`: no picture is made, so neither is taken.
-fn made_by(given: &Given) -> Option<Option<Made>>
-    ensures { result ≡ made_by (texts_of given.now) }
-{
-    if given.make.is_some() || given.seed.is_some() {
-        None
-    } else {
-        Some(None)
     }
 }

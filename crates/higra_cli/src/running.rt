@@ -1,20 +1,22 @@
 // A whole run.
-ghost use Rattle.std.specs.Prelude.{◌≡◌, ◌≢◌, ◌⊎◌, ◌<◌, ℕ, List, Some, None, IfErr};
+ghost use Rattle.std.specs.Prelude.{◌≡◌, ◌≢◌, ◌⊎◌, ◌<◌, ℕ, List, Some, None, IfErr, IfSome};
 ghost use Rattle.std.specs.Io.KnownBytes.{Appends};
 ghost use Rattle.hg_base.specs.Outside.{AppendsPrefix, Rose};
 ghost use Rattle.hg_base.specs.declared.fault.InputFault.{InputFault};
 ghost use Rattle.higra_cli.specs.Command.{requested};
 ghost use Rattle.higra_cli.specs.Ending.{fault_line};
-ghost use Rattle.higra_cli.specs.Reading.{GaveAtMost, GaveEdgeList, IsFor, told};
-ghost use Rattle.higra_cli.specs.Running.{AppendsSome, EndsWork, HasRequest, IsAnswerTo, StoodStill};
+ghost use Rattle.higra_cli.specs.Reading.{GaveAtMost, told};
+ghost use Rattle.higra_cli.specs.Running.{AreBytesOf, CanMake, CanReport, EndsGetting, EndsWork, EndsWriting, HasStatus, IsAnswerTo, Reports, StoodStill};
 
 use super::ending::Status;
+use super::input::Input;
 use super::line::FaultLine;
 use super::reading::read_input;
-use super::request::request_of;
+use super::request::{Made, Request, request_of};
 use super::words::Words;
-use super::writing::report;
+use super::writing::{RunFault, report};
 use hg_base::{Gate, Sink, Source, write_all};
+use pgm_reader::make_picture;
 use std::alloc::Global;
 use std::thread::Threads;
 
@@ -24,6 +26,7 @@ use std::thread::Threads;
 /// The refusals come in this order: the words; each read, its failure first and then an input that
 /// is too long; the faults of the input; the writes. Memory may run out at any point before the
 /// first byte of `out` is written. A failure of `err` changes nothing.
+#[tactic(auto, using(crate::proofs::RunningLemmas::complete_from))]
 pub fn run<S: Source, K: Sink, E: Sink, G: Gate>(
     rt: &(impl Threads + Sync),
     alloc: Global,
@@ -39,20 +42,23 @@ pub fn run<S: Source, K: Sink, E: Sink, G: Gate>(
     ensures unread { result ≡ Status.Usage → source.new ≡ source.old }
 
     // The source.
+    ensures made { (request : Request) (m : Made) → requested words.now ≡ Some request → request.made ≡ Some m → source.new ≡ source.old }
     ensures most { GaveAtMost 134217729 (S.left source.old) (S.left source.new) }
     ensures read_failed { result ≡ Status.ReadFailed → Rose (S.faults source.old) (S.faults source.new) }
     ensures read_fault { S.faults source.old < S.faults source.new → (result ≡ Status.ReadFailed) ⊎ (result ≡ Status.OutOfMemory) }
-    ensures input { (fault : InputFault) → result ≡ Status.Input fault → IsFor (S.left source.old) (Status.Input fault) }
-    ensures success { result ≡ Status.Success → GaveEdgeList (S.left source.old) (S.left source.new) }
+    ensures input { (fault : InputFault) → result ≡ Status.Input fault → HasStatus words.now (S.left source.old) (Status.Input fault) }
 
     // Where the source tells its bytes and no read fails, the status is the one for these bytes.
-    ensures complete { HasRequest words.now → (bytes : List ℕ) → S.left source.old ≡ Some bytes → StoodStill (S.faults source.old) (S.faults source.new) → IsAnswerTo bytes result }
+    ensures complete { (request : Request) (bytes : List ℕ) → requested words.now ≡ Some request → AreBytesOf request.made (S.left source.old) bytes → StoodStill (S.faults source.old) (S.faults source.new) → IsAnswerTo request bytes result }
+
+    // The report.
+    ensures success { result ≡ Status.Success → Reports words.now (S.left source.old) (S.left source.new) (Appends (K.content out.old) (K.content out.new)) }
+    ensures begun { result ≡ Status.WriteFailed → Reports words.now (S.left source.old) (S.left source.new) (AppendsPrefix (K.content out.old) (K.content out.new)) }
 
     // The sink of the report.
     ensures write_failed { result ≡ Status.WriteFailed → Rose (K.faults out.old) (K.faults out.new) }
     ensures write_fault { K.faults out.old < K.faults out.new → result ≡ Status.WriteFailed }
     ensures unwritten { result ≢ Status.Success → result ≢ Status.WriteFailed → out.new ≡ out.old }
-    ensures begun { result ≡ Status.WriteFailed → AppendsSome (K.content out.old) (K.content out.new) }
 
     // The sink of the fault line.
     ensures silent { result ≡ Status.Success → err.new ≡ err.old }
@@ -69,6 +75,7 @@ pub fn run<S: Source, K: Sink, E: Sink, G: Gate>(
 }
 
 // All of a run but the fault line. An error is the status with which the run ends.
+#[tactic(auto, using(crate::proofs::RunningLemmas::made_of_one, crate::proofs::RunningLemmas::stopped_other))]
 fn work<S: Source, K: Sink, G: Gate>(
     rt: &(impl Threads + Sync),
     alloc: Global,
@@ -81,14 +88,56 @@ fn work<S: Source, K: Sink, G: Gate>(
     ensures refused { IfErr result (λ status. status ≢ Status.Success) }
     ensures most { GaveAtMost 134217729 (S.left source.old) (S.left source.new) }
     ensures unread { IfErr result (λ status. status ≡ Status.Usage → source.new ≡ source.old) }
+    ensures made { (request : Request) (m : Made) → requested words.now ≡ Some request → request.made ≡ Some m → source.new ≡ source.old }
     ensures unwritten { IfErr result (λ status. status ≢ Status.WriteFailed → out.new ≡ out.old) }
 {
     let request = request_of(alloc, words)?;
-    let input = read_input(alloc, source)?;
-    let bytes = report(rt, alloc, &request, &input, gate)?;
-    match write_all(out, &bytes) {
-        Ok(()) => Ok(()),
-        Err(_) => Err(Status::WriteFailed),
+    match input_for(alloc, request.made, source) {
+        Ok(input) => write_report(rt, alloc, &request, &input, out, gate),
+        Err(status) => Err(status),
+    }
+}
+
+// Makes the report that is asked for and writes it.
+#[tactic(auto, using(crate::proofs::RunningLemmas::reports_written))]
+fn write_report<K: Sink, G: Gate>(
+    rt: &(impl Threads + Sync),
+    alloc: Global,
+    request: &Request,
+    input: &Input,
+    out: &mut K,
+    gate: &G,
+) -> Result<(), Status>
+    requires { CanReport request.now }
+    ensures ends { EndsWriting request.now input.now (told (K.content out.old) (K.faults out.old)) (told (K.content out.new) (K.faults out.new)) result }
+    ensures refused { IfErr result (λ status. status ≢ Status.Success) }
+    ensures asked { IfErr result (λ status. status ≢ Status.Usage) }
+    ensures unwritten { IfErr result (λ status. status ≢ Status.WriteFailed → out.new ≡ out.old) }
+{
+    match report(rt, alloc, request, input, gate) {
+        Ok(bytes) => match write_all(out, &bytes) {
+            Ok(()) => Ok(()),
+            Err(_) => Err(Status::WriteFailed),
+        },
+        Err(RunFault::Input(fault)) => Err(Status::Input(fault)),
+        Err(RunFault::OutOfMemory) => Err(Status::OutOfMemory),
+    }
+}
+
+// The input of a request: the picture that it has made, or what the source gives.
+fn input_for<S: Source>(
+    alloc: Global,
+    made: Option<Made>,
+    source: &mut S,
+) -> Result<Input, Status>
+    requires { IfSome made CanMake }
+    ensures ends { EndsGetting made (told (S.left source.old) (S.faults source.old)) (told (S.left source.new) (S.faults source.new)) result }
+    ensures most { GaveAtMost 134217729 (S.left source.old) (S.left source.new) }
+    ensures made { (m : Made) → made ≡ Some m → source.new ≡ source.old }
+{
+    match made {
+        Some(Made { side, seed }) => Ok(Input::Picture(make_picture(alloc, side, seed)?)),
+        None => read_input(alloc, source),
     }
 }
 

@@ -44,47 +44,73 @@ fn runs<S: Source>(
     Ok(())
 }
 
-// Runs `tree` on an input, with an outside that is well.
+// Runs the words on an input, with an outside that is well.
 fn runs_on(
     rt: &(impl Threads + Sync + Abort),
     alloc: Global,
+    words: &[&str],
     input: &str,
     want: (u8, &str, &str),
 ) -> Result<(), Fail> {
     let mut source = source_of(alloc, input, 0)?;
     let mut out = sink_of(alloc, 100, 0)?;
     let mut err = sink_of(alloc, 100, 0)?;
-    runs(rt, alloc, &["tree"], &mut source, &mut out, &mut err, want)
+    runs(rt, alloc, words, &mut source, &mut out, &mut err, want)
 }
 
 #[test]
 fn reports(rt: HostRuntime) -> Result<(), Fail> {
-    let rows = [
+    let triangle = "graph 3 3\n0 1 1\n1 2 1\n0 2 1\n";
+    let rows: [(&[&str], &str, &str); 13] = [
         (
+            &["tree"],
             "graph 3 2\n0 1 5\n1 2 3\n",
             "tree 5 3\n0 4 0\n1 3 0\n2 3 0\n3 4 3\n4 4 5\n",
         ),
-        ("graph 1 0\n", "tree 1 1\n0 0 0\n"),
+        (&["tree"], "graph 1 0\n", "tree 1 1\n0 0 0\n"),
+        (&["zones"], "graph 1 0\n", "tree 1 1\n0 0 0\n"),
         (
-            "graph 3 3\n0 1 1\n1 2 1\n0 2 1\n",
+            &["tree"],
+            triangle,
             "tree 5 3\n0 3 0\n1 3 0\n2 4 0\n3 4 1\n4 4 1\n",
         ),
+        (&["zones"], triangle, "tree 4 3\n0 3 0\n1 3 0\n2 3 0\n3 3 1\n"),
+        (&["saliency"], triangle, "saliency 3\n0 1\n1 1\n2 1\n"),
         (
-            "graph 3 1\n0 1 4\n",
-            "tree 4 3\n0 3 0\n1 3 0\n2 2 0\n3 3 4\n",
+            &["saliency"],
+            "graph 4 4\n0 1 1\n1 2 4\n2 3 2\n0 3 3\n",
+            "saliency 4\n0 1\n1 3\n2 2\n3 3\n",
         ),
-        ("graph 2 0\n", "tree 2 2\n0 0 0\n1 1 0\n"),
+        (&["saliency"], "graph 3 1\n0 1 4\n", "saliency 1\n0 4\n"),
         (
-            "graph 2 1\n0 1 4294967295\n",
-            "tree 3 2\n0 2 0\n1 2 0\n2 2 4294967295\n",
-        ),
-        (
+            &["tree"],
             "# roads\ngraph 2 1\r\n0 1 7 # north\r\n",
             "tree 3 2\n0 2 0\n1 2 0\n2 2 7\n",
         ),
+        (
+            &["tree"],
+            "P5\n2 2\n9\n\0\x03\x03\t",
+            "tree 7 4\n0 4 0\n1 4 0\n2 5 0\n3 6 0\n4 5 3\n5 6 3\n6 6 6\n",
+        ),
+        (
+            &["tree"],
+            "P5\n# made by an editor\n3 1\n255\n\n\x14\x19",
+            "tree 5 3\n0 4 0\n1 3 0\n2 3 0\n3 4 5\n4 4 10\n",
+        ),
+        (
+            &["tree"],
+            "P5 2 1 256\n\x01\0\0\x05",
+            "tree 3 2\n0 2 0\n1 2 0\n2 2 251\n",
+        ),
+        // The weights are 34, 69, 86 and 51; the source isn't read.
+        (
+            &["saliency", "--make", "2", "--seed", "1"],
+            "grap",
+            "saliency 4\n0 34\n1 69\n2 69\n3 51\n",
+        ),
     ];
-    for (input, report) in rows {
-        runs_on(&rt, rt.alloc(), input, (0, report, ""))?;
+    for (words, input, report) in rows {
+        runs_on(&rt, rt.alloc(), words, input, (0, report, ""))?;
     }
     Ok(())
 }
@@ -121,9 +147,26 @@ fn faults_of_the_input(rt: HostRuntime) -> Result<(), Fail> {
         ("", "higra: input 1 UnknownForm at 0 value 0\n"),
         ("graph 3 x\n", "higra: input 2 BadNumber at 8 value 0\n"),
         ("graph 0 0\n", "higra: input 8 NoVertex at 6 value 0\n"),
+        (
+            "P5 2 1 256\n\x01\x01\0\x05",
+            "higra: input 9 SampleAboveMax at 11 value 257\n",
+        ),
+        (
+            "P5 2 1 255\n\x07",
+            "higra: input 4 Truncated at 12 value 0\n",
+        ),
+        (
+            "P5 2 1 255\n\x07\x08\t",
+            "higra: input 5 Trailing at 13 value 0\n",
+        ),
+        ("P5 2 0 9\n", "higra: input 8 NoVertex at 5 value 0\n"),
+        ("P5 2 2 0\n", "higra: input 2 BadNumber at 7 value 0\n"),
+        ("P5", "higra: input 4 Truncated at 2 value 0\n"),
+        ("P", "higra: input 1 UnknownForm at 0 value 0\n"),
+        ("P2 1 1 9\n", "higra: input 1 UnknownForm at 0 value 0\n"),
     ];
     for (input, line) in rows {
-        runs_on(&rt, rt.alloc(), input, (3, "", line))?;
+        runs_on(&rt, rt.alloc(), &["tree"], input, (3, "", line))?;
     }
     Ok(())
 }
@@ -149,7 +192,7 @@ fn asks_for_nothing(
 
 #[test]
 fn words_that_give_no_request(rt: HostRuntime) -> Result<(), Fail> {
-    let rows: [&[&str]; 38] = [
+    let rows: [&[&str]; 41] = [
         &[],
         &[""],
         &["forest"],
@@ -179,6 +222,9 @@ fn words_that_give_no_request(rt: HostRuntime) -> Result<(), Fail> {
         &["tree", "--form", "pgm"],
         &["tree", "--form", "Text"],
         &["tree", "--seed", "4"],
+        &["tree", "--make", "0"],
+        &["tree", "--make", "1025"],
+        &["tree", "--make", "2", "--seed", "4294967296"],
         &["hierarchical", "--kind", "altitude"],
         &["cut", "--level", "1x"],
         &["tree", "--report", "tree"],

@@ -1,1 +1,14 @@
 pub mod NodeLemmas
+pub mod PathLemmas
+pub mod ClimbLemmas
+pub mod ChildLemmas
+pub mod ForestClimbs
+pub mod TreeLemmas
+pub mod CellLemmas
+pub mod NumberingLaws
+pub mod PlacedTree
+pub mod ListLemmas
+pub mod ListTree
+pub mod PlannedTree
+pub mod PlannedLots
+pub mod TestLemmas

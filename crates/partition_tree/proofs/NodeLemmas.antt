@@ -1,12 +1,9 @@
 -- Passes over the nodes in order of number.
-use Rattle.std.proofs.Common.{◌≡◌, ℕ, zero, suc, ◌+◌, ◌≤◌, Bool, true, false, cond, List, [], ◌∷◌, ◌++◌, Option, Some, ◌∙◌, ap, arith, add-one, append_assoc, append-nil}
-use Rattle.std.specs.Prelude.{count_by, IfSome, slice_set}
+use Rattle.std.proofs.Common.{◌≡◌, ℕ, zero, suc, ◌+◌, ◌≤◌, Bool, true, false, cond, List, [], ◌∷◌, ◌++◌, ◌∙◌, ap, arith, add-one, append_assoc, append-nil}
+use Rattle.std.specs.Prelude.{count_by}
 use Rattle.hg_base.specs.Text.{line}
 use Rattle.hg_base.specs.Tree.{ParentTree, parent, altitude}
 use Rattle.partition_tree.specs.Report.{node_line}
-use Rattle.border_climb.specs.Chains.{Chains, IsUsed}
-use Rattle.partition_tree.specs.Joining.{AreUsed}
-use Rattle.std.proofs.lemmas.List.Elements.{All-set}
 use Rattle.std.specs.List.{range_with_len, flat_map}
 use Rattle.std.proofs.lemmas.List.Sums.{sum_by-append, count_by-le-length}
 use Rattle.std.proofs.lemmas.List.Concat.{flat_map-append}
@@ -52,7 +49,3 @@ pub line_more : (tree : ParentTree) (head text new : List ℕ) (i a b d : ℕ) �
 line_more tree head text new i a b d so_far pushed number above high =
     let more = pieces_more (node_line tree) head i in
     cc
-
--- one more cell is noted
-pub noted_more : (part : Chains) (cells : List (Option ℕ)) (rank cell : ℕ) → IsUsed part cell → AreUsed part cells → AreUsed part (slice_set cells rank (Some cell))
-noted_more part cells rank cell used noted = All-set (λ (o : Option ℕ). IfSome o (IsUsed part)) cells rank (Some cell) used noted

@@ -1,5 +1,10 @@
 pub mod Ranked
 pub mod Forest
-pub mod Joining
+pub mod Paths
+pub mod Climbs
+pub mod Children
+pub mod Numbering
+pub mod Planned
+pub mod ForestFields
 pub mod TreeFields
 pub mod Report

@@ -1,5 +1,8 @@
 -- Lists of edges in order, from which trees are made.
-use Rattle.std.specs.Prelude.{◌≢◌, ℕ, ◌<◌, ◌≤◌, List, length, All}
+use Rattle.std.specs.Prelude.{◌≢◌, ℕ, zero, suc, ◌<◌, ◌≤◌, List, [], ◌∷◌, length, map, All, slice_get}
+use Rattle.std.specs.Option.{option_map_or}
+use Rattle.std.specs.List.{range_with_len}
+use Rattle.hg_base.specs.Edges.{ListedEdge, EdgeList}
 use Rattle.std.specs.List.Sorted.{IsNonDecreasingBy}
 use Rattle.partition_tree.specs.declared.list.Ranked.{Ranked}
 
@@ -16,3 +19,22 @@ pub record IsRankedList (n : ℕ) (edges : List Ranked) : Type 0 where
   pub small : length edges ≤ 4194304
   pub ends : All (JoinsTwo n) edges
   pub rising : IsNonDecreasingBy (λ (e : Ranked). e.altitude) edges
+
+-- the edge at a place of the list, which is its rank
+abbrev pub edge_at : List Ranked → ℕ → ListedEdge
+edge_at list k = record {
+  rank = k;
+  u = option_map_or (λ (e : Ranked). e.u) (slice_get list k) 0;
+  v = option_map_or (λ (e : Ranked). e.v) (slice_get list k) 0;
+  weight = option_map_or (λ (e : Ranked). e.altitude) (slice_get list k) 0;
+  number = option_map_or (λ (e : Ranked). e.edge) (slice_get list k) 0;
+}
+
+-- the edges of a list, with the place as rank, the altitude as weight and `edge` as number
+abbrev pub edges_of : List Ranked → EdgeList
+edges_of list = map (edge_at list) (range_with_len 0 (length list))
+
+-- the first k edges of a list, in the order in which they were given, the last in front
+abbrev pub first_edges : List Ranked → ℕ → EdgeList
+first_edges list zero = []
+first_edges list (suc k) = edge_at list k ∷ first_edges list k

@@ -1,11 +1,17 @@
 //! Binary partition trees by altitude: made from a list of edges, read node by node, and written as a report.
 #![tactic(auto)]
 
+mod children;
+mod climbs;
+mod forest;
+mod laws;
 mod list;
 mod numbering;
+mod planned;
 mod report;
 mod tree;
 
+pub use laws::{tree_is_a_forest, tree_under_other_names};
 pub use list::Ranked;
 pub use report::write_tree;
 pub use tree::Tree;

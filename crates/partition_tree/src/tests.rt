@@ -1,10 +1,18 @@
+ghost use Rattle.std.specs.Prelude.{◌≡◌, ◌<◌, ◌-◌, ◌∷◌, [], IfOk};
+ghost use Rattle.node_region.specs.Pool.{count};
+ghost use Rattle.border_climb.specs.Stands.{Stands};
+ghost use Rattle.tile_plan.specs.Plan.{edges_at, end_place, first_place, room_places, room_tiles, root, tile_count};
 ghost use Rattle.partition_tree.specs.Ranked.{IsRankedList};
 
 use super::{Ranked, Tree, write_tree};
-use hg_base::OutOfMemory;
-use std::alloc::Global;
+use border_climb::{Part, build_tile, join};
+use edge_order::Order;
+use hg_base::{Edge, Graph, OutOfMemory};
+use std::alloc::{AllocError, Global};
 use std::process::Abort;
 use std::test::Fail;
+use std::thread::Threads;
+use tile_plan::Plan;
 
 // Edges in order, from lists of ends, number and altitude.
 const PATH: [Ranked; 2] = [
@@ -49,6 +57,40 @@ const APART: [Ranked; 1] = [Ranked {
     edge: 0,
     altitude: 4,
 }];
+
+// Two paths of nodes that meet in the last.
+const PATHS: [Ranked; 5] = [
+    Ranked {
+        u: 0,
+        v: 1,
+        edge: 0,
+        altitude: 1,
+    },
+    Ranked {
+        u: 2,
+        v: 3,
+        edge: 1,
+        altitude: 2,
+    },
+    Ranked {
+        u: 0,
+        v: 4,
+        edge: 2,
+        altitude: 3,
+    },
+    Ranked {
+        u: 2,
+        v: 5,
+        edge: 3,
+        altitude: 4,
+    },
+    Ranked {
+        u: 0,
+        v: 2,
+        edge: 4,
+        altitude: 5,
+    },
+];
 
 fn assert_report(
     rt: &impl Abort,
@@ -106,5 +148,209 @@ fn readers(rt: HostRuntime) -> Result<(), Fail> {
     }
     assert!(rt; tree.leaves() <= 3 && 3 < tree.nodes());
     assert_eq!(rt; tree.maker(3), 0);
+    Ok(())
+}
+
+fn assert_children(rt: &impl Abort, tree: &Tree, node: u32, children: &[u32]) {
+    assert!(rt; node < tree.nodes());
+    assert_eq!(rt; tree.child_count(node) as usize, children.len());
+    for (k, child) in children.iter().enumerate() {
+        assert!(rt; (k as u32) < tree.child_count(node));
+        assert_eq!(rt; tree.child(node, k as u32), *child);
+    }
+}
+
+#[test]
+fn children(rt: HostRuntime) -> Result<(), Fail> {
+    let tree = Tree::of_list(rt.alloc(), 6, &PATHS)?;
+    assert_children(&rt, &tree, 0, &[]);
+    assert_children(&rt, &tree, 6, &[0, 1]);
+    assert_children(&rt, &tree, 8, &[4, 6]);
+    assert_children(&rt, &tree, 9, &[5, 7]);
+    assert_children(&rt, &tree, 10, &[8, 9]);
+    Ok(())
+}
+
+fn assert_lowest(rt: &impl Abort, tree: &Tree, a: u32, b: u32, lowest: Option<u32>) {
+    assert!(rt; a < tree.nodes() && b < tree.nodes());
+    assert_eq!(rt; tree.lca(a, b), lowest, "of {a} and {b}");
+}
+
+#[test]
+fn lowest_common_ancestors(rt: HostRuntime) -> Result<(), Fail> {
+    let tree = Tree::of_list(rt.alloc(), 6, &PATHS)?;
+    for (a, b, lowest) in [
+        (0, 0, 0),
+        (0, 1, 6),
+        (1, 4, 8),
+        (3, 5, 9),
+        (0, 2, 10),
+        (7, 8, 10),
+        (6, 0, 6),
+        (10, 3, 10),
+    ] {
+        assert_lowest(&rt, &tree, a, b, Some(lowest));
+        assert_lowest(&rt, &tree, b, a, Some(lowest));
+    }
+    let apart = Tree::of_list(rt.alloc(), 3, &APART)?;
+    assert_lowest(&rt, &apart, 0, 1, Some(3));
+    assert_lowest(&rt, &apart, 0, 2, None);
+    assert_lowest(&rt, &apart, 2, 3, None);
+    Ok(())
+}
+
+#[test]
+fn lists(rt: HostRuntime) -> Result<(), Fail> {
+    let parents = vec![in rt.alloc(); 2, 2, 2]?;
+    let altitudes = vec![in rt.alloc(); 0, 0, 7]?;
+    let makers = vec![in rt.alloc(); 5]?;
+    let tree = Tree::from_lists(rt.alloc(), 2, parents, altitudes, makers)?;
+    let text = write_tree(rt.alloc(), &tree)?;
+    assert_eq!(rt;
+        text.as_slice(),
+        "tree 3 2\n0 2 0\n1 2 0\n2 2 7\n".as_bytes()
+    );
+    assert!(rt; tree.leaves() <= 2 && 2 < tree.nodes());
+    assert_eq!(rt; tree.maker(2), 5);
+    Ok(())
+}
+
+// The part of a tile before it takes in an edge.
+fn opened_part(rt: &impl Abort, alloc: Global, plan: &Plan, tile: u32) -> Result<Part, OutOfMemory>
+    requires { tile < tile_count plan.now }
+    ensures first { IfOk result (λ part. part.region.first ≡ first_place plan.now tile) }
+    ensures count { IfOk result (λ part. count part.region ≡ end_place plan.now tile - first_place plan.now tile) }
+    ensures chunks { IfOk result (λ part. part.region.chunks ≡ 1) }
+    ensures room { IfOk result (λ part. part.region.room ≡ record { places = room_places plan.now tile; chunks = room_tiles plan.now tile }) }
+    ensures lots { IfOk result (λ part. part.lots ≡ []) }
+    ensures stands { IfOk result (λ part. Stands part []) }
+{
+    let _ = plan.n();
+    let (first, count) = plan.range(tile);
+    let room = plan.room_of(tile);
+    assert!(rt; 1 <= count && count <= room.places);
+    assert!(rt; first <= 1_048_576 && room.places <= 1_048_576 - first);
+    assert!(rt; 1 <= room.chunks && room.chunks <= 65_536);
+    Part::of_tile(alloc, first, count, room)
+}
+
+// The part of a tile, which took in the tile's lot.
+fn tile_part(rt: &impl Abort, alloc: Global, plan: &Plan, tile: u32) -> Result<Part, OutOfMemory>
+    requires { tile < tile_count plan.now }
+    ensures first { IfOk result (λ part. part.region.first ≡ first_place plan.now tile) }
+    ensures count { IfOk result (λ part. count part.region ≡ end_place plan.now tile - first_place plan.now tile) }
+    ensures chunks { IfOk result (λ part. part.region.chunks ≡ 1) }
+    ensures room { IfOk result (λ part. part.region.room ≡ record { places = room_places plan.now tile; chunks = room_tiles plan.now tile }) }
+    ensures lots { IfOk result (λ part. part.lots ≡ tile ∷ []) }
+    ensures stands { IfOk result (λ part. Stands part (edges_at plan.now tile)) }
+{
+    let _ = plan.n();
+    let part = opened_part(rt, alloc, plan, tile)?;
+    Ok(build_tile(part, tile, plan.lot(tile)))
+}
+
+// The part of a plan of two tiles, which took in all edges.
+fn joined_part(rt: &impl Abort, alloc: Global, plan: &Plan) -> Result<Part, OutOfMemory>
+    requires { tile_count plan.now ≡ 2 }
+    ensures { IfOk result (λ part. Stands part (edges_at plan.now (root plan.now))) }
+{
+    let _ = plan.n();
+    let (first, second) = plan.children(2);
+    assert!(rt; first < 2 && second < 2);
+    let left = tile_part(rt, alloc, plan, first)?;
+    let right = tile_part(rt, alloc, plan, second)?;
+    let room = plan.room_of(first);
+    let begins = left.first();
+    let follows = right.first();
+    let places = left.count();
+    let others = right.count();
+    assert!(rt; begins <= follows);
+    assert!(rt; follows - begins == places);
+    assert!(rt; places <= room.places);
+    assert!(rt; others <= room.places - places);
+    assert!(rt; 2 <= room.chunks);
+    Ok(join(left, right, 2, plan.lot(2)))
+}
+
+// The part of a plan of one or two tiles, which took in all edges.
+fn whole_part(rt: &impl Abort, alloc: Global, plan: &Plan) -> Result<Part, OutOfMemory>
+    ensures { IfOk result (λ part. Stands part (edges_at plan.now (root plan.now))) }
+{
+    if plan.tiles() == 1 {
+        return tile_part(rt, alloc, plan, 0);
+    }
+    assert!(rt; plan.tiles() == 2);
+    joined_part(rt, alloc, plan)
+}
+
+// The graph of n vertices with edges of these ends and weights.
+fn graph_of(
+    rt: &impl Abort,
+    alloc: Global,
+    n: u32,
+    rows: &[(u32, u32, u32)],
+) -> Result<Graph, AllocError> {
+    assert!(rt; 1 <= n);
+    assert!(rt; n <= 1_048_576);
+    assert!(rt; rows.len() <= 4_194_304);
+    let mut edges = Vec::new(alloc);
+    for &(u, v, w) in rows {
+        assert!(rt; u < n && v < n && u != v);
+        edges.push(Edge { u, v, w })?;
+    }
+    Ok(Graph::new(n, edges))
+}
+
+// The report of the tree that is made over a plan of blocks.
+fn assert_planned(
+    rt: &(impl Abort + Threads + Sync),
+    alloc: Global,
+    n: u32,
+    rows: &[(u32, u32, u32)],
+    tile: u32,
+    report: &str,
+) -> Result<(), Fail> {
+    let graph = graph_of(rt, alloc, n, rows)?;
+    let order = Order::of(rt, alloc, &graph)?;
+    assert!(rt; 1 <= tile);
+    let plan = Plan::blocks(alloc, &graph, &order, tile).expect(rt, "ample memory");
+    let part = whole_part(rt, alloc, &plan)?;
+    let places = part.count();
+    let vertices = plan.n();
+    assert!(rt; part.first() == 0);
+    assert!(rt; places == vertices);
+    let tree = Tree::of_part(alloc, &order, &plan, &part)?;
+    let text = write_tree(alloc, &tree)?;
+    assert_eq!(rt; text.as_slice(), report.as_bytes());
+    Ok(())
+}
+
+#[test]
+fn over_plans(rt: HostRuntime) -> Result<(), Fail> {
+    // In the second tile the edge of weight 6 joins, until the border is merged.
+    assert_planned(
+        &rt,
+        rt.alloc(),
+        4,
+        &[(0, 1, 5), (2, 3, 6), (1, 2, 1), (0, 3, 2)],
+        2,
+        "tree 7 4\n0 5 0\n1 4 0\n2 4 0\n3 5 0\n4 6 1\n5 6 2\n6 6 5\n",
+    )?;
+    assert_planned(
+        &rt,
+        rt.alloc(),
+        3,
+        &[(0, 1, 5), (1, 2, 3)],
+        64,
+        "tree 5 3\n0 4 0\n1 3 0\n2 3 0\n3 4 3\n4 4 5\n",
+    )?;
+    assert_planned(
+        &rt,
+        rt.alloc(),
+        3,
+        &[(0, 1, 4)],
+        64,
+        "tree 4 3\n0 3 0\n1 3 0\n2 2 0\n3 3 4\n",
+    )?;
     Ok(())
 }

@@ -1,14 +1,14 @@
 -- The tables of a plan hold what its definitions say.
-use Rattle.std.proofs.Common.{◌≡◌, ◌≢◌, ℕ, ◌+◌, ◌-◌, ◌*◌, ◌/◌, ◌%◌, ◌<◌, ◌≤◌, Bool, true, false, cond, inl, inr, refl, sym, ◌∙◌, subst, ap, arith, List, [], ◌∷◌, ◌++◌, length, map, get_or}
+use Rattle.std.proofs.Common.{◌≡◌, ℕ, ◌+◌, ◌-◌, ◌*◌, ◌/◌, ◌%◌, ◌<◌, ◌≤◌, Bool, true, false, cond, inl, inr, refl, sym, ◌∙◌, subst, ap, arith, List, [], ◌∷◌, length, map}
 use Rattle.std.specs.Prelude.{◌==◌, filter, nat_lt, slice_index, slice_range}
 use Rattle.std.proofs.lemmas.Bool.{cases_Bool, eq-eqb, eqb-true, ltb-true, ltb-false}
-use Rattle.hg_base.specs.Edges.{ListedEdge, EdgeList, IsIn, IsOneToOne, renamed, renamed_edge}
+use Rattle.hg_base.specs.Edges.{ListedEdge, EdgeList, IsIn, renamed, renamed_edge}
 use Rattle.hg_base.specs.Placed.{placed}
 use Rattle.hg_base.proofs.Members.{IsIn-kept}
 use Rattle.hg_base.proofs.Sets.{same_test}
 use Rattle.tile_plan.specs.Merges.{MergeTree, Tile, Merge, half, IsCut, tiles, tile_at}
-use Rattle.tile_plan.specs.Sites.{Part, is_lot_of, find}
-use Rattle.tile_plan.specs.Grids.{IsSmall, tiles_in, tree_in, part_in, lot_in, root_of}
+use Rattle.tile_plan.specs.Sites.{is_lot_of, find}
+use Rattle.tile_plan.specs.Grids.{tiles_in, tree_in, part_in, lot_in, root_of}
 use Rattle.tile_plan.specs.Frames.{IsFrame, grid_in, home_in, vertices_in}
 use Rattle.std.proofs.lemmas.List.{length-map}
 use Rattle.tile_plan.specs.declared.site.Grid.{Grid}
@@ -19,9 +19,9 @@ use Rattle.hg_base.specs.Rising.{IsRising}
 use Rattle.tile_plan.specs.Placing.{AreKeys, IsTable, start_by, place_by}
 use Rattle.tile_plan.specs.Plan.{TilePlan, IsPlan, IsEdgeAmong, grid_of, tile_count, part_count, vertices, home, start, place_of, part, lot_between_vertices, lot_edges}
 use Rattle.tile_plan.proofs.Laying.{tree_in-is, tree_in-tiles, grid-columns, grid-rows, vertex-column, vertex-row}
-use Rattle.tile_plan.proofs.Counting.{start_by-agree, place_by-agree, place-once, place-below, start-mono, start-le}
+use Rattle.tile_plan.proofs.Counting.{start_by-agree, place_by-agree, start-mono, start-le}
 use Rattle.tile_plan.proofs.Growing.{IsTable-agree}
-use Rattle.tile_plan.proofs.LotNumbers.{HasLot, lot-only, lot-found}
+use Rattle.tile_plan.proofs.LotNumbers.{lot-only, lot-found}
 use Rattle.tile_plan.proofs.Mothers.{plan-tiles, plan-has}
 
 -- the tile at a column and a row is one of the tree's
@@ -81,11 +81,11 @@ pub lots-agree : (p : TilePlan) (homes places : List ℕ) (i : ℕ) → IsPlan p
 unfolding lot_edges lot_between_vertices
 lots-agree p homes places i h hh hp l =
     ap (renamed (slice_index places)) (filter-agree_in (λ e. lot_in (grid_of p) (slice_index homes e.u) (slice_index homes e.v) == i) (λ e. is_lot_of (part p i).tree (part p i).site (home p e.u) (home p e.v)) p.edges (λ e j.
-      (let ends = h.edges e j in
-      rw (hh.at e.u ends.u, hh.at e.v ends.v) (lot-test p i (home p e.u) (home p e.v) h l (home-below p.frame e.u h.frame ends.u) (home-below p.frame e.v h.frame ends.v)))))
+    (let ends = h.edges e j in
+    rw (hh.at e.u ends.u, hh.at e.v ends.v) (lot-test p i (home p e.u) (home p e.v) h l (home-below p.frame e.u h.frame ends.u) (home-below p.frame e.v h.frame ends.v)))))
     ∙ renamed-agree_in (slice_index places) (place_of p) (filter (λ e. is_lot_of (part p i).tree (part p i).site (home p e.u) (home p e.v)) p.edges) (λ e j.
-      (let ends = h.edges e (IsIn-kept (λ e. is_lot_of (part p i).tree (part p i).site (home p e.u) (home p e.v)) e p.edges j).1 in
-      (hp.at e.u ends.u, hp.at e.v ends.v)))
+    (let ends = h.edges e (IsIn-kept (λ e. is_lot_of (part p i).tree (part p i).site (home p e.u) (home p e.v)) e p.edges j).1 in
+    (hp.at e.u ends.u, hp.at e.v ends.v)))
 
 -- starts and places by the table of tiles
 pub starts-agree : (p : TilePlan) (homes starts : List ℕ) (count : ℕ) → IsTable (home p) (vertices p) homes → count ≡ tile_count p
@@ -93,7 +93,7 @@ pub starts-agree : (p : TilePlan) (homes starts : List ℕ) (count : ℕ) → Is
 unfolding start
 starts-agree p homes starts count h e t =
     rw (← e) (IsTable-agree (start_by (slice_index homes) (length homes)) (start_by (home p) (vertices p)) (count + 1) starts
-      (λ k l. ap (λ (n : ℕ). start_by (slice_index homes) n k) h.long ∙ start_by-agree (slice_index homes) (home p) (vertices p) k h.at) t)
+    (λ k l. ap (λ (n : ℕ). start_by (slice_index homes) n k) h.long ∙ start_by-agree (slice_index homes) (home p) (vertices p) k h.at) t)
 
 pub places-agree : (p : TilePlan) (homes places : List ℕ) → IsTable (home p) (vertices p) homes
     → IsTable (place_by (slice_index homes) (length homes)) (length homes) places → IsTable (place_of p) (vertices p) places
@@ -117,7 +117,7 @@ pub lots-hold : (q : TilePlan) (s : EdgeList) (g : Grid) (count : ℕ) (homes pl
     → first ≡ numbers → IsTable (start_by (slice_index first) (length first)) (count + 1) held.starts.items → count ≡ 2 * tiles_in g - 1
     → second ≡ numbers → cuts ≡ held.starts.items → length held.edges.items ≡ length s
     → ((lot : ListedEdge → ℕ) → second ≡ map lot s → (i : ℕ) → i + 1 < length cuts →
-        slice_range held.edges.items (slice_index cuts i) (slice_index cuts (i + 1)) ≡ map placed (renamed (slice_index places) (filter (λ e. lot e == i) s)))
+    slice_range held.edges.items (slice_index cuts i) (slice_index cuts (i + 1)) ≡ map placed (renamed (slice_index places) (filter (λ e. lot e == i) s)))
     → HoldsLots q held
 lots-hold q s g count homes places numbers first second cuts held h same grid hh hp keys one table count_is two cut_is long filled =
     let count_of_parts : count ≡ part_count q = count_is ∙ ap (λ (z : Grid). 2 * tiles_in z - 1) grid in
@@ -129,7 +129,7 @@ lots-hold q s g count homes places numbers first second cuts held h same grid hh
       lots = λ i l.
           (let room : i + 1 < length cuts = (let t = table.long in let e = ap length cut_is in omega (arith, t, e)) in
           subst (λ (xs : List ℕ). slice_range held.edges.items (slice_index xs i) (slice_index xs (i + 1)) ≡ map placed (renamed (slice_index places) (filter (λ e. lot_in g (slice_index homes e.u) (slice_index homes e.v) == i) s)))
-            cut_is (filled (λ e. lot_in g (slice_index homes e.u) (slice_index homes e.v)) (two ∙ keys) i room)
+          cut_is (filled (λ e. lot_in g (slice_index homes e.u) (slice_index homes e.v)) (two ∙ keys) i room)
           ∙ ap (λ (z : Grid). map placed (renamed (slice_index places) (filter (λ e. lot_in z (slice_index homes e.u) (slice_index homes e.v) == i) s))) grid
           ∙ ap (λ (z : EdgeList). map placed (renamed (slice_index places) (filter (λ e. lot_in (grid_of q) (slice_index homes e.u) (slice_index homes e.v) == i) z))) (sym same)
           ∙ ap (map placed) (lots-agree q homes places i h hh hp l));
@@ -139,7 +139,7 @@ lots-hold q s g count homes places numbers first second cuts held h same grid hh
 pub keys-below : (f : Frame) (g : Grid) (count : ℕ) (homes xs : List ℕ) → IsFrame f → g ≡ grid_in f → count ≡ tiles_in g → IsTable (home_in f) (vertices_in f) homes → xs ≡ homes → AreKeys count xs
 keys-below f g count homes xs h grid e t same =
     subst (AreKeys count) (sym same) (λ i l. (let long : length homes ≡ vertices_in f = t.long in
-      let below = home-below f i h (omega arith) in let at = t.at i (omega arith) in let all = ap tiles_in grid in omega (arith, below, at, e, all)))
+    let below = home-below f i h (omega arith) in let at = t.at i (omega arith) in let all = ap tiles_in grid in omega (arith, below, at, e, all)))
 
 -- the table of tiles under another name of its list
 pub table-at : (f : ℕ → ℕ) (n : ℕ) (xs ys : List ℕ) → ys ≡ xs → IsTable f n xs → IsTable f n ys

@@ -1,12 +1,6 @@
 -- Trees of merges: how many tiles and merges they have, and which grid is cut into which.
-use Rattle.std.proofs.Common.{◌≡◌, ℕ, zero, suc, ◌+◌, ◌-◌, ◌*◌, ◌<◌, ◌≤◌, Bool, true, false, cond, inl, inr, refl, sym, ◌∙◌, ap, arith}
-use Rattle.std.specs.Prelude.{◌==◌, nat_lt, nat_le, ◌&&◌}
-use Rattle.std.specs.Int.{div_ceil}
-use Rattle.std.proofs.lemmas.Bool.{cases_Bool, eqb-true, eq-eqb, ltb-true, ltb-false, lt-ltb}
-use Rattle.std.proofs.lemmas.Bool.Decides.{nat_tests}
-use Rattle.tile_plan.specs.Merges.{MergeTree, Tile, Merge, half, cut, merge_tree, IsCut, tiles, merges, tile_at}
-use Rattle.tile_plan.specs.Grids.{tiles_in, IsTreeOf, AreHalves, AreSideBySide, AreStacked}
-use Rattle.tile_plan.specs.declared.site.Grid.{Grid}
+use Rattle.std.proofs.Common.{◌≡◌, ℕ, ◌+◌, ◌-◌, ◌*◌, ◌≤◌, true, false, refl, sym, ◌∙◌, ap, arith}
+use Rattle.tile_plan.specs.Merges.{MergeTree, Tile, Merge, half, IsCut, tiles, merges}
 use Rattle.tile_plan.specs.declared.site.Site.{Site}
 use Rattle.tile_plan.specs.Sites.{number}
 

@@ -1,29 +1,25 @@
 -- The edges at and below the parts of a plan.
-use Rattle.std.proofs.Common.{◌≡◌, ◌≢◌, ℕ, ◌+◌, ◌-◌, ◌*◌, ◌<◌, ◌≤◌, Bool, true, false, ◌⊎◌, inl, inr, refl, sym, ◌∙◌, subst, ap, arith, List, [], ◌∷◌, ◌++◌, length}
-use Rattle.std.specs.Prelude.{filter, ◌↔◌}
+use Rattle.std.proofs.Common.{◌≡◌, ℕ, ◌+◌, ◌<◌, ◌≤◌, true, inl, inr, refl, sym, ◌∙◌, subst, ap, arith, List, [], ◌∷◌, ◌++◌}
 use Rattle.std.specs.List.{flat_map}
-use Rattle.std.proofs.lemmas.Bool.{cases_eq}
-use Rattle.std.proofs.lemmas.List.{append-nil, append_assoc, length-map}
-use Rattle.hg_base.specs.Edges.{ListedEdge, EdgeList, IsIn, AreApart, AreWithin, IsSameSet, in_order, placed_by_rank, joins, chain, renamed, renamed_edge}
+use Rattle.std.proofs.lemmas.List.{append-nil, append_assoc}
+use Rattle.hg_base.specs.Edges.{ListedEdge, EdgeList, IsIn, AreApart, renamed_edge}
 use Rattle.hg_base.specs.Rising.{IsRising}
 use Rattle.hg_base.proofs.Members.{IsIn-kept, IsIn-filter}
 use Rattle.hg_base.proofs.Fronts.{apart-one}
 use Rattle.hg_base.proofs.Components.{IsIn-append, IsIn-append_back}
-use Rattle.hg_base.proofs.Sets.{in_order-same, joins-same, chain-same}
-use Rattle.hg_base.proofs.Renaming.{joins-renamed, chain-renamed}
 use Rattle.tile_plan.specs.Merges.{MergeTree, Tile, Merge, tiles, merges}
-use Rattle.tile_plan.specs.Sites.{Part, number, left_site, right_site, find, post_order, is_lot_of}
-use Rattle.tile_plan.specs.Grids.{tiles_in, tree_in, root_of, part_in}
+use Rattle.tile_plan.specs.Sites.{Part, left_site, right_site, find, post_order, is_lot_of}
+use Rattle.tile_plan.specs.Grids.{tree_in, root_of, part_in}
 use Rattle.tile_plan.specs.declared.site.Site.{Site}
-use Rattle.tile_plan.specs.Plan.{TilePlan, IsPlan, IsEdgeAmong, IsPlaceOf, grid_of, tile_count, part, part_count, root, vertices, home, place_of, start, first_tile, tiles_of, left, right, post, lot_between_vertices, lot_edges, edges_at}
+use Rattle.tile_plan.specs.Plan.{TilePlan, IsPlan, IsEdgeAmong, IsPlaceOf, grid_of, tile_count, part, part_count, vertices, home, place_of, first_tile, tiles_of, left, right, post, lot_between_vertices, lot_edges, edges_at}
 use Rattle.tile_plan.specs.Laws.{JoinsHalves, Crosses, HasEdges}
 use Rattle.tile_plan.proofs.Cuts.{tiles-some}
-use Rattle.tile_plan.proofs.Parts.{Has, Has-number, found, Within, IsFound, own, post-has, has-post, halves-apart, Has-within, Within-left, Within-right}
-use Rattle.tile_plan.proofs.LotNumbers.{IsTileOf, HasLot, lot-only, lot-found, Parted, lot-inside, tile-within, merge-lot}
-use Rattle.tile_plan.proofs.Mothers.{IsPart, HalvesAt, halves-at, plan-tiles, plan-has, has-below, is_part, part-fits, root-part}
+use Rattle.tile_plan.proofs.Parts.{Has, Has-number, found, Within, own, post-has, halves-apart, Has-within, Within-left, Within-right}
+use Rattle.tile_plan.proofs.LotNumbers.{lot-only, lot-found, Parted, lot-inside, tile-within, merge-lot}
+use Rattle.tile_plan.proofs.Mothers.{HalvesAt, halves-at, plan-tiles, plan-has, has-below, is_part, part-fits}
 use Rattle.tile_plan.proofs.Agreeing.{home-below}
-use Rattle.tile_plan.proofs.Ranges.{place-covers, places-once, places-below, start-rises}
-use Rattle.tile_plan.proofs.Reading.{IsIn-renamed, IsIn-renamed_back, lot-rising}
+use Rattle.tile_plan.proofs.Ranges.{place-covers, places-once, places-below}
+use Rattle.tile_plan.proofs.Reading.{IsIn-renamed_back, lot-rising}
 
 -- lots end to end
 flat_map-append : (f : ℕ → EdgeList) (xs ys : List ℕ) → flat_map f (xs ++ ys) ≡ flat_map f xs ++ flat_map f ys
@@ -66,7 +62,7 @@ joins_halves p m h low high =
     let l : post p (left p m) ≡ post_order n a.x (left_site n a.x a.y a.s) = ap (λ (z : Part). post_order n z.tree z.site) v.left_part in
     let r : post p (right p m) ≡ post_order n a.y (right_site n a.x a.y a.s) = ap (λ (z : Part). post_order n z.tree z.site) v.right_part in
     let list : post p m ≡ (post p (left p m) ++ post p (right p m)) ++ m ∷ [] =
-      ap (λ (z : Part). post_order n z.tree z.site) a.is ∙ rw (l, r, v.own_is) refl in
+    ap (λ (z : Part). post_order n z.tree z.site) a.is ∙ rw (l, r, v.own_is) refl in
     record {
       parts = list;
       edges = ap (flat_map (lot_edges p)) list
@@ -207,25 +203,25 @@ apart-posts p (Merge by k x y) s h fits below =
     let last = below (own n x y s) (Has-number n (Merge by k x y) s fits) in
     subst AreApart (sym (flat_map-append (lot_edges p) (xs ++ ys) (own n x y s ∷ [])))
     (AreApart-append (flat_map (lot_edges p) (xs ++ ys)) (lot_edges p (own n x y s) ++ [])
-      (subst AreApart (sym (flat_map-append (lot_edges p) xs ys))
-        (AreApart-append (flat_map (lot_edges p) xs) (flat_map (lot_edges p) ys)
-          (apart-posts p x (left_site n x y s) h (omega arith) lf) (apart-posts p y (right_site n x y s) h (omega arith) rf)
-          (λ e f ie jf same. (let a = IsIn-flat_map_back (lot_edges p) xs e ie in let b = IsIn-flat_map_back (lot_edges p) ys f jf in
-            let ha = post-has n x (left_site n x y s) a.0 (omega arith) a.1.0 in
-            let hb = post-has n y (right_site n x y s) b.0 (omega arith) b.1.0 in
-            let one = ranks-once p a.0 b.0 e f h (lf a.0 ha) (rf b.0 hb) a.1.1 b.1.1 same in
-            halves-apart n x y s b.0 (subst (Has n x (left_site n x y s)) one ha) hb))))
-      (subst AreApart (sym (append-nil (lot_edges p (own n x y s)))) (AreApart-rising (lot_edges p (own n x y s)) (lot-rising p (own n x y s) h)))
-      (λ e f ie jf same. (let a = IsIn-flat_map_back (lot_edges p) (xs ++ ys) e ie in
-        let jf' = subst (IsIn f) (append-nil (lot_edges p (own n x y s))) jf in
-        elim (IsIn-append_back a.0 xs ys a.1.0) [
-          | inl l ↦ (let ha = post-has n x (left_site n x y s) a.0 (omega arith) l in
-              let one : a.0 ≡ own n x y s = ranks-once p a.0 (own n x y s) e f h (lf a.0 ha) last a.1.1 jf' same in
-              let high = ha.merge_high (omega (arith, one)) in omega (arith, one, high))
-          | inr r ↦ (let ha = post-has n y (right_site n x y s) a.0 (omega arith) r in
-              let one : a.0 ≡ own n x y s = ranks-once p a.0 (own n x y s) e f h (rf a.0 ha) last a.1.1 jf' same in
-              let high : a.0 < n + (s.first_merge + merges x) + merges y = ha.merge_high (omega (arith, one)) in omega (arith, one, high))
-        ])))
+    (subst AreApart (sym (flat_map-append (lot_edges p) xs ys))
+    (AreApart-append (flat_map (lot_edges p) xs) (flat_map (lot_edges p) ys)
+    (apart-posts p x (left_site n x y s) h (omega arith) lf) (apart-posts p y (right_site n x y s) h (omega arith) rf)
+    (λ e f ie jf same. (let a = IsIn-flat_map_back (lot_edges p) xs e ie in let b = IsIn-flat_map_back (lot_edges p) ys f jf in
+    let ha = post-has n x (left_site n x y s) a.0 (omega arith) a.1.0 in
+    let hb = post-has n y (right_site n x y s) b.0 (omega arith) b.1.0 in
+    let one = ranks-once p a.0 b.0 e f h (lf a.0 ha) (rf b.0 hb) a.1.1 b.1.1 same in
+    halves-apart n x y s b.0 (subst (Has n x (left_site n x y s)) one ha) hb))))
+    (subst AreApart (sym (append-nil (lot_edges p (own n x y s)))) (AreApart-rising (lot_edges p (own n x y s)) (lot-rising p (own n x y s) h)))
+    (λ e f ie jf same. (let a = IsIn-flat_map_back (lot_edges p) (xs ++ ys) e ie in
+    let jf' = subst (IsIn f) (append-nil (lot_edges p (own n x y s))) jf in
+    elim (IsIn-append_back a.0 xs ys a.1.0) [
+      | inl l ↦ (let ha = post-has n x (left_site n x y s) a.0 (omega arith) l in
+          let one : a.0 ≡ own n x y s = ranks-once p a.0 (own n x y s) e f h (lf a.0 ha) last a.1.1 jf' same in
+          let high = ha.merge_high (omega (arith, one)) in omega (arith, one, high))
+      | inr r ↦ (let ha = post-has n y (right_site n x y s) a.0 (omega arith) r in
+          let one : a.0 ≡ own n x y s = ranks-once p a.0 (own n x y s) e f h (rf a.0 ha) last a.1.1 jf' same in
+          let high : a.0 < n + (s.first_merge + merges x) + merges y = ha.merge_high (omega (arith, one)) in omega (arith, one, high))
+    ])))
 
 -- the parts at and below a part are parts of the plan
 below-count : (p : TilePlan) (i j : ℕ) → IsPlan p → i < part_count p → Has (tile_count p) (part p i).tree (part p i).site j → j < part_count p

@@ -1,13 +1,13 @@
 -- What the tables of a plan hold: its tree, its parts, the tiles of its vertices.
-use Rattle.std.proofs.Common.{◌≡◌, ℕ, zero, suc, ◌+◌, ◌-◌, ◌*◌, ◌/◌, ◌%◌, ◌<◌, ◌≤◌, Bool, true, false, inl, inr, refl, sym, ◌∙◌, subst, ap, arith}
-use Rattle.std.specs.Prelude.{◌==◌, ◌&&◌, nat_le, nat_lt, min, if◌then◌else◌}
+use Rattle.std.proofs.Common.{◌≡◌, ℕ, zero, suc, ◌+◌, ◌-◌, ◌*◌, ◌/◌, ◌%◌, ◌<◌, ◌≤◌, Bool, true, false, inl, inr, refl, sym, ◌∙◌, arith}
+use Rattle.std.specs.Prelude.{◌==◌, ◌&&◌, nat_le, nat_lt, if◌then◌else◌}
 use Rattle.std.specs.Int.{div_ceil}
 use Rattle.std.proofs.lemmas.Bool.{cases_Bool, cases_lt, eqb-true, eq-eqb}
 use Rattle.std.proofs.lemmas.Bool.Decides.{nat_tests}
 use Rattle.std.proofs.lemmas.Nat.{mul-le, mul-add-lt, div-mul-add, mod-mul-add, div_below, mod_below}
 use Rattle.std.proofs.lemmas.Grind.{div_ceil_times}
 use Rattle.tile_plan.specs.Merges.{MergeTree, Tile, Merge, half, cut, merge_tree, IsCut, tiles, merges, tile_at}
-use Rattle.tile_plan.specs.Sites.{number, left_site, right_site, find}
+use Rattle.tile_plan.specs.Sites.{left_site, right_site, find}
 use Rattle.tile_plan.specs.Grids.{tiles_in, IsSmall, IsTreeOf, row_of_part, root_of, tree_in, part_in, tile_in, lot_number, lot_in}
 use Rattle.tile_plan.specs.Frames.{vertices_in, grid_in, home_in, IsFrame}
 use Rattle.tile_plan.specs.declared.site.Grid.{Grid}

@@ -1,15 +1,15 @@
 -- Each edge is in exactly one lot: that of the part which the descent by the tiles of its ends finds.
-use Rattle.std.proofs.Common.{◌≡◌, ◌≢◌, ℕ, ◌+◌, ◌<◌, ◌≤◌, Bool, true, false, ◌⊎◌, inl, inr, refl, sym, ◌∙◌, subst, ap, arith}
+use Rattle.std.proofs.Common.{◌≡◌, ℕ, ◌+◌, ◌<◌, ◌≤◌, Bool, true, false, ◌⊎◌, inl, inr, refl, sym, ◌∙◌, subst, ap, arith}
 use Rattle.std.specs.Prelude.{◌==◌, ◌&&◌, ◌||◌, nat_lt, nat_le}
-use Rattle.std.proofs.lemmas.Bool.{cases_lt, cases_eq, cases_Bool, eq-eqb, eqb-true, ltb-true, true≢false}
+use Rattle.std.proofs.lemmas.Bool.{cases_lt, eq-eqb, eqb-true, ltb-true, true≢false}
 use Rattle.std.proofs.lemmas.Bool.Decides.{nat_tests}
-use Rattle.tile_plan.specs.Merges.{MergeTree, Tile, Merge, tiles, merges}
-use Rattle.tile_plan.specs.Sites.{Part, number, left_site, right_site, find, is_among, is_lot_of}
+use Rattle.tile_plan.specs.Merges.{MergeTree, Tile, Merge, tiles}
+use Rattle.tile_plan.specs.Sites.{Part, left_site, right_site, find, is_among, is_lot_of}
 use Rattle.tile_plan.specs.Grids.{lot_number}
 use Rattle.tile_plan.specs.declared.site.Site.{Site}
 use Rattle.tile_plan.proofs.Cuts.{tiles-some}
-use Rattle.tile_plan.proofs.Descents.{lt-true, lt-false, le-true, eq-false}
-use Rattle.tile_plan.proofs.Parts.{Has, Within, IsFound, found, own, where_is, find-self, left-finds, right-finds, Has-number, Has-within, Within-left, Within-right}
+use Rattle.tile_plan.proofs.Descents.{lt-true, lt-false, le-true}
+use Rattle.tile_plan.proofs.Parts.{Has, Within, found, own, where_is, find-self, left-finds, right-finds, Has-number, Has-within, Within-left, Within-right}
 
 -- a tile of the part
 pub record IsTileOf (t : MergeTree) (s : Site) (a : ℕ) : Type 0 where
@@ -89,9 +89,10 @@ lot-right : (n : ℕ) (by : Bool) (k : ℕ) (x y : MergeTree) (s : Site) (a b : 
 lot-right n by k x y s a b ha hb = rw (lt-false a (s.first_tile + tiles x) ha, le-true (s.first_tile + tiles x) a ha, le-true (s.first_tile + tiles x) b hb) refl
 
 lot-own : (n : ℕ) (by : Bool) (k : ℕ) (x y : MergeTree) (s : Site) (a b : ℕ) → a < s.first_tile + tiles x → s.first_tile + tiles x ≤ b → (lot_number n (Merge by k x y) s a b ≡ own n x y s) × (lot_number n (Merge by k x y) s b a ≡ own n x y s)
-lot-own n by k x y s a b ha hb =
-    (rw (lt-true a (s.first_tile + tiles x) ha, lt-false b (s.first_tile + tiles x) hb, le-false (s.first_tile + tiles x) a ha) refl,
-     rw (lt-false b (s.first_tile + tiles x) hb, le-true (s.first_tile + tiles x) b hb, le-false (s.first_tile + tiles x) a ha) refl)
+lot-own n by k x y s a b ha hb = (
+  rw (lt-true a (s.first_tile + tiles x) ha, lt-false b (s.first_tile + tiles x) hb, le-false (s.first_tile + tiles x) a ha) refl,
+  rw (lt-false b (s.first_tile + tiles x) hb, le-true (s.first_tile + tiles x) b hb, le-false (s.first_tile + tiles x) a ha) refl,
+)
   where
     le-false : (c d : ℕ) → d < c → nat_le c d ≡ false
     le-false c d h = grind (arith, nat_tests)

@@ -1,15 +1,15 @@
 -- The laws of mothers and halves, over a whole plan.
-use Rattle.std.proofs.Common.{◌≡◌, ◌≢◌, ℕ, ◌+◌, ◌-◌, ◌*◌, ◌<◌, ◌≤◌, Bool, true, false, ◌⊎◌, inl, inr, refl, sym, ◌∙◌, subst, ap, arith}
+use Rattle.std.proofs.Common.{◌≡◌, ◌≢◌, ℕ, ◌+◌, ◌-◌, ◌*◌, ◌<◌, ◌≤◌, Bool, inl, inr, refl, sym, ◌∙◌, subst, ap, arith}
 use Rattle.std.proofs.lemmas.Bool.{cases_lt, cases_eq}
 use Rattle.tile_plan.specs.Merges.{MergeTree, Tile, Merge, tiles, merges}
 use Rattle.tile_plan.specs.Sites.{Part, number, left_site, right_site, find, left_of, right_of}
-use Rattle.tile_plan.specs.Grids.{IsSmall, tiles_in, tree_in, root_of, part_in}
+use Rattle.tile_plan.specs.Grids.{tree_in, root_of, part_in}
 use Rattle.tile_plan.specs.declared.site.Site.{Site}
 use Rattle.tile_plan.specs.Plan.{TilePlan, IsPlan, grid_of, tile_count, part, part_count, root, first_tile, tiles_of, left, right, mother, weight, sibling, start}
 use Rattle.tile_plan.specs.Laws as laws
 use Rattle.tile_plan.proofs.Cuts.{tiles-merges, tiles-some}
 use Rattle.tile_plan.proofs.Laying.{tree_in-tiles, grid-columns, grid-rows}
-use Rattle.tile_plan.proofs.Parts.{Has, IsFound, HalfOf, HasMother, found, find-self, left-found, right-found, mother_of, own, Has-number}
+use Rattle.tile_plan.proofs.Parts.{Has, IsFound, HalfOf, found, find-self, left-found, right-found, mother_of, own}
 
 -- the part of number i, where it is found in the tree of the plan
 abbrev pub IsPart : TilePlan → ℕ → Part → Type 0

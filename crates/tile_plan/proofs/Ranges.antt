@@ -1,26 +1,26 @@
 -- The tiles, places and rooms of the parts of a plan.
-use Rattle.std.proofs.Common.{◌≡◌, ◌≢◌, ℕ, ◌+◌, ◌-◌, ◌*◌, ◌/◌, ◌%◌, ◌<◌, ◌≤◌, Bool, true, false, ◌⊎◌, inl, inr, refl, sym, ◌∙◌, subst, ap, arith, [], ◌∷◌}
-use Rattle.std.specs.Prelude.{nat_lt, ◌↔◌, min}
+use Rattle.std.proofs.Common.{◌≡◌, ℕ, ◌+◌, ◌-◌, ◌*◌, ◌/◌, ◌<◌, ◌≤◌, true, false, ◌⊎◌, inl, inr, refl, sym, ◌∙◌, subst, ap, arith, [], ◌∷◌}
+use Rattle.std.specs.Prelude.{◌↔◌}
 use Rattle.std.specs.Int.{div_ceil}
 use Rattle.std.specs.List.{flat_map}
-use Rattle.std.proofs.lemmas.Bool.{cases_lt, cases_Bool, ltb-true, ltb-false}
+use Rattle.std.proofs.lemmas.Bool.{cases_lt}
 use Rattle.std.proofs.lemmas.Nat.{mul-le, mul-add-lt, div-mul-add, mod-mul-add}
 use Rattle.std.proofs.lemmas.Grind.{div_ceil_times}
 use Rattle.std.proofs.lemmas.List.{append-nil}
 use Rattle.hg_base.specs.Edges.{IsOneToOne}
-use Rattle.tile_plan.specs.Merges.{MergeTree, Tile, Merge, half, IsCut, tiles, merges, tile_at}
+use Rattle.tile_plan.specs.Merges.{MergeTree, Tile, Merge, half, IsCut, tiles, tile_at}
 use Rattle.tile_plan.specs.Sites.{Part, number, left_site, right_site, find, post_order}
-use Rattle.tile_plan.specs.Grids.{tiles_in, tree_in, root_of, part_in}
-use Rattle.tile_plan.specs.Frames.{IsFrame, grid_in, home_in}
-use Rattle.tile_plan.specs.Placing.{place_by, start_by}
+use Rattle.tile_plan.specs.Grids.{tree_in, root_of, part_in}
+use Rattle.tile_plan.specs.Frames.{grid_in, home_in}
+use Rattle.tile_plan.specs.Placing.{start_by}
 use Rattle.tile_plan.specs.declared.site.Site.{Site}
-use Rattle.tile_plan.specs.Plan.{TilePlan, IsPlan, IsPlaceOf, IsLargestFrom, grid_of, tile_count, part, part_count, vertices, home, place_of, start, first_tile, tiles_of, first_place, end_place, post, lot_edges, edges_at, room_tiles}
+use Rattle.tile_plan.specs.Plan.{TilePlan, IsPlan, IsLargestFrom, grid_of, tile_count, part, part_count, vertices, home, place_of, start, first_tile, tiles_of, post, lot_edges, edges_at, room_tiles}
 use Rattle.tile_plan.specs.Laws.{IsSomewhere, IsTile}
-use Rattle.tile_plan.proofs.Cuts.{tiles-some, tiles-merges}
+use Rattle.tile_plan.proofs.Cuts.{tiles-some}
 use Rattle.tile_plan.proofs.Descents.{lt-true, lt-false}
 use Rattle.tile_plan.proofs.Laying.{tree_in-is, grid-columns, grid-rows}
 use Rattle.tile_plan.proofs.Counting as counting
-use Rattle.tile_plan.proofs.Parts.{Has, IsFound, where_is, find-self, left-finds, right-finds, Has-number, Has-within, Within-left, Within-right, first-room, own}
+use Rattle.tile_plan.proofs.Parts.{Has, where_is, find-self, left-finds, right-finds, Has-number, Has-within, Within-left, Within-right, first-room, own}
 use Rattle.tile_plan.proofs.Mothers.{IsPart, plan-tiles, plan-has, has-below, is_part, part-fits}
 
 -- each tile of a tree is at some column and row
@@ -40,8 +40,13 @@ tile_at-onto c r (Merge true j x y) k h l =
       | inl low ↦ (let a = tile_at-onto (half c) r x k h.1.0 low in
           record { column = a.column; row = a.row; column_low = (let l = a.column_low in omega arith); row_low = a.row_low; is = rw (lt-true a.column j (let l = a.column_low in omega arith)) a.is })
       | inr high ↦ (let a = tile_at-onto (c - half c) r y (k - tiles x) h.1.1 (omega arith) in
-          record { column = j + a.column; row = a.row; column_low = (let l = a.column_low in omega arith); row_low = a.row_low;
-            is = rw (lt-false (j + a.column) j (omega arith)) (let same : j + a.column - j ≡ a.column = omega arith in let is = a.is in rw same (omega (arith, is))) })
+          record {
+            column = j + a.column;
+            row = a.row;
+            column_low = (let l = a.column_low in omega arith);
+            row_low = a.row_low;
+            is = rw (lt-false (j + a.column) j (omega arith)) (let same : j + a.column - j ≡ a.column = omega arith in let is = a.is in rw same (omega (arith, is)));
+          })
     ]
 tile_at-onto c r (Merge false j x y) k h l =
     let e : j ≡ half r = h.0.1.1 in
@@ -51,8 +56,13 @@ tile_at-onto c r (Merge false j x y) k h l =
       | inl low ↦ (let a = tile_at-onto c (half r) x k h.1.0 low in
           record { column = a.column; row = a.row; column_low = a.column_low; row_low = (let l = a.row_low in omega arith); is = rw (lt-true a.row j (let l = a.row_low in omega arith)) a.is })
       | inr high ↦ (let a = tile_at-onto c (r - half r) y (k - tiles x) h.1.1 (omega arith) in
-          record { column = a.column; row = j + a.row; column_low = a.column_low; row_low = (let l = a.row_low in omega arith);
-            is = rw (lt-false (j + a.row) j (omega arith)) (let same : j + a.row - j ≡ a.row = omega arith in let is = a.is in rw same (omega (arith, is))) })
+          record {
+            column = a.column;
+            row = j + a.row;
+            column_low = a.column_low;
+            row_low = (let l = a.row_low in omega arith);
+            is = rw (lt-false (j + a.row) j (omega arith)) (let same : j + a.row - j ≡ a.row = omega arith in let is = a.is in rw same (omega (arith, is)));
+          })
     ]
 
 -- the first number of a block that there is
@@ -82,8 +92,12 @@ tile-vertex p t h l =
     record {
       vertex = a.row * f.side * f.width + a.column * f.side;
       below = mul-add-lt (a.row * f.side) f.width (a.column * f.side) f.height row column;
-      home_is = rw (mod-mul-add (a.row * f.side) f.width (a.column * f.side) column, div-mul-add (a.row * f.side) f.width (a.column * f.side) column,
-        block-of a.column f.side h.frame.side, block-of a.row f.side h.frame.side) a.is;
+      home_is = rw (
+        mod-mul-add (a.row * f.side) f.width (a.column * f.side) column,
+        div-mul-add (a.row * f.side) f.width (a.column * f.side) column,
+        block-of a.column f.side h.frame.side,
+        block-of a.row f.side h.frame.side,
+      ) a.is;
     }
 
 -- no tile is empty
@@ -233,8 +247,13 @@ is_largest p t h l =
     let first : first_tile p t ≡ t = tile.first in
     record {
       attained = elim (room-filled n tree (root_of n) t (omega (arith, count)) (plan-has p t h low)) [
-        | inl shares ↦ (number n tree (root_of n), (has-below p (number n tree (root_of n)) h (Has-number n tree (root_of n) (omega (arith, count))),
-            (ap (λ (z : Part). z.site.first_tile) (find-self n tree (root_of n)) ∙ shares.first ∙ first, ap (λ (z : Part). tiles z.tree) (find-self n tree (root_of n)) ∙ count ∙ shares.room)))
+        | inl shares ↦ (
+          number n tree (root_of n),
+          (
+            has-below p (number n tree (root_of n)) h (Has-number n tree (root_of n) (omega (arith, count))),
+            (ap (λ (z : Part). z.site.first_tile) (find-self n tree (root_of n)) ∙ shares.first ∙ first, ap (λ (z : Part). tiles z.tree) (find-self n tree (root_of n)) ∙ count ∙ shares.room),
+          ),
+        )
         | inr fills ↦ (fills.at, (has-below p fills.at h fills.has, (fills.first ∙ first, fills.all)))
       ];
       largest = λ i li e. (let somewhere = is_somewhere p i h li in let room : tiles_of p i ≤ room_tiles p (first_tile p i) = somewhere.room in subst (λ (k : ℕ). tiles_of p i ≤ room_tiles p k) e room);

@@ -1,35 +1,28 @@
 -- What the readers of a plan give.
-use Rattle.std.proofs.Common.{◌≡◌, ℕ, ◌+◌, ◌-◌, ◌*◌, ◌<◌, ◌≤◌, Bool, true, false, cond, inl, inr, [], ◌∷◌, refl, sym, ◌∙◌, subst, ap, arith, List, length, get_or, map}
-use Rattle.std.specs.Prelude.{slice_index, slice_range, Option, Some, None, nat_eq, ◌==◌}
-use Rattle.std.specs.List.{range_with_len}
+use Rattle.std.proofs.Common.{◌≡◌, ℕ, ◌+◌, ◌<◌, ◌≤◌, inl, inr, [], ◌∷◌, refl, sym, ◌∙◌, subst, ap, arith, List, length, get_or}
+use Rattle.std.specs.Prelude.{slice_index, Option, Some, ◌==◌}
 use Rattle.std.proofs.lemmas.Bool.{eq-eqb, eqb-true, true≢false}
 use Rattle.std.proofs.lemmas.List.{get_or_read}
 use Rattle.std.proofs.lemmas.List.FromFn.{length-map-range_with_len, get_or-map-range_with_len}
 use Rattle.hg_base.specs.Rising.{IsRising}
 use Rattle.hg_base.specs.Edges.{ListedEdge, EdgeList, IsIn, IsOneToOne, renamed, renamed_edge}
-use Rattle.hg_base.proofs.Members.{IsIn-kept, IsRising-filter}
-use Rattle.hg_base.specs.declared.graph.PlacedEdge.{PlacedEdge}
-use Rattle.tile_plan.specs.Merges.{tiles}
+use Rattle.hg_base.proofs.Members.{IsRising-filter}
 use Rattle.tile_plan.proofs.Cuts.{tiles-some}
-use Rattle.tile_plan.specs.Sites.{Part, is_lot_of, left_of, right_of}
-use Rattle.tile_plan.specs.Grids.{tiles_in, tree_in, part_in, rows_of, row_of_part}
+use Rattle.tile_plan.specs.Sites.{is_lot_of}
+use Rattle.tile_plan.specs.Grids.{tree_in, part_in, rows_of, row_of_part}
 use Rattle.tile_plan.specs.Placing.{IsTable}
-use Rattle.tile_plan.specs.Plan.{TilePlan, IsPlan, grid_of, tile_count, part_count, root, vertices, part, home, place_of, start, left, right, mother, weight, first_tile, tiles_of, parent, side_of, room_tiles, lot_between_vertices, lot_edges}
+use Rattle.tile_plan.specs.Plan.{TilePlan, IsPlan, grid_of, tile_count, part_count, root, vertices, part, home, place_of, start, left, right, mother, weight, first_tile, tiles_of, parent, room_tiles, lot_between_vertices, lot_edges}
 use Rattle.tile_plan.specs.PlanFields.{HoldsPlaces, HoldsLots, HoldsPlan, plan_of}
 use Rattle.tile_plan.specs.declared.site.Row.{Row}
 use Rattle.tile_plan.specs.declared.site.Side.{Side}
 use Rattle.tile_plan.specs.declared.site.Side.TheVariants as sides
-use Rattle.tile_plan.specs.declared.site.Site.{Site}
-use Rattle.tile_plan.specs.declared.site.Grid.{Grid}
-use Rattle.tile_plan.specs.declared.frame.Frame.{Frame}
 use Rattle.tile_plan.specs.declared.plan.Plan.TheInside.{Inside}
-use Rattle.tile_plan.specs.Laws.{IsSomewhere, HasMother}
 use Rattle.tile_plan.proofs.Descents.{eq-false}
-use Rattle.tile_plan.proofs.Mothers.{plan-tiles, has_mother}
+use Rattle.tile_plan.proofs.Mothers.{plan-tiles}
 use Rattle.hg_base.proofs.Pigeons.{Into, misses_none}
 use Rattle.hg_base.proofs.Counts.{least_below}
 use Rattle.tile_plan.specs.declared.plan.Places.{Places}
-use Rattle.tile_plan.proofs.Ranges.{is_somewhere, start-rises, start-within, room-is, is_tile, places-once, places-below}
+use Rattle.tile_plan.proofs.Ranges.{is_somewhere, is_tile, places-once, places-below}
 
 -- what the fields hold of the plan that contracts see
 pub record HoldsAs (q : TilePlan) (p : Inside) : Type 0 where
@@ -63,7 +56,7 @@ pub row-read : (q : TilePlan) (i : ℕ) (rows : List Row) (row : Row) → rows �
 unfolding rows_of part
 row-read q i rows row same l read =
     let is : row ≡ row_of_part (tile_count q) (part_in (grid_of q) i) =
-      read ∙ ap (λ (xs : List Row). get_or xs i row) same ∙ get_or-map-range_with_len (λ j. row_of_part (tile_count q) (part_in (grid_of q) j)) 0 (part_count q) i i row l (omega arith) in
+    read ∙ ap (λ (xs : List Row). get_or xs i row) same ∙ get_or-map-range_with_len (λ j. row_of_part (tile_count q) (part_in (grid_of q) j)) 0 (part_count q) i i row l (omega arith) in
     record {
       first_tile = ap (λ (r : Row). r.site.first_tile) is;
       mother = ap (λ (r : Row). r.site.mother) is;

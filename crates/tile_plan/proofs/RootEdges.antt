@@ -1,14 +1,13 @@
 -- The edges at and below the root are all edges of the plan.
-use Rattle.std.proofs.Common.{◌≡◌, ℕ, ◌+◌, ◌-◌, ◌*◌, ◌<◌, ◌≤◌, cond, Bool, true, false, inl, inr, refl, sym, ◌∙◌, subst, ap, arith, List, [], ◌∷◌, ◌++◌, length}
+use Rattle.std.proofs.Common.{◌≡◌, ℕ, ◌+◌, ◌<◌, cond, Bool, true, false, refl, sym, ◌∙◌, subst, ap, arith, [], ◌∷◌, length}
 use Rattle.std.specs.Prelude.{nat_lt}
-use Rattle.std.specs.List.{flat_map}
 use Rattle.std.proofs.lemmas.List.{length-map}
 use Rattle.hg_base.specs.Edges.{ListedEdge, EdgeList, IsIn, AreApart, AreWithin, IsSameSet, in_order, placed_by_rank, joins, chain, renamed, renamed_edge}
 use Rattle.hg_base.proofs.Sets.{in_order-same, joins-same, chain-same}
 use Rattle.hg_base.proofs.Renaming.{joins-renamed, chain-renamed}
 use Rattle.tile_plan.specs.Sites.{Part, post_order}
 use Rattle.tile_plan.specs.Grids.{tree_in, root_of}
-use Rattle.tile_plan.specs.Plan.{TilePlan, IsPlan, grid_of, tile_count, part, part_count, root, vertices, place_of, post, lot_between_vertices, lot_edges, edges_at}
+use Rattle.tile_plan.specs.Plan.{TilePlan, IsPlan, grid_of, tile_count, part_count, root, vertices, place_of, post, lot_between_vertices, lot_edges, edges_at}
 use Rattle.tile_plan.proofs.Parts.{has-post}
 use Rattle.tile_plan.proofs.Mothers.{plan-has, root-part}
 use Rattle.tile_plan.proofs.Ranges.{places-once}
@@ -36,7 +35,7 @@ AreApart-renamed f (e ∷ s) h = (λ g i r. (let p = IsIn-renamed_back f s g i i
 root-below : (p : TilePlan) → IsPlan p → root p < part_count p
 root-below p h = let some = some-tile p h in omega (arith, some)
 
-apart-edges : (p : TilePlan) → IsPlan p → AreApart (renamed (place_of p) p.edges)
+pub apart-edges : (p : TilePlan) → IsPlan p → AreApart (renamed (place_of p) p.edges)
 apart-edges p h = AreApart-renamed (place_of p) p.edges (AreApart-rising p.edges h.rising)
 
 -- an edge of the plan is in a lot below the root
@@ -57,7 +56,7 @@ root-all p h = record {
 root-apart : (p : TilePlan) → IsPlan p → AreApart (edges_at p (root p))
 root-apart p h = (has_edges p (root p) h (root-below p h)).apart
 
-within-edges : (p : TilePlan) → IsPlan p → AreWithin (vertices p) p.edges
+pub within-edges : (p : TilePlan) → IsPlan p → AreWithin (vertices p) p.edges
 within-edges p h e i = let ends = h.edges e i in (ends.u, ends.v)
 
 pub root-count : (p : TilePlan) → IsPlan p → length (edges_at p (root p)) ≡ length p.edges

@@ -1,9 +1,9 @@
 -- Edges read by rank, and put into their lots one after the other.
 use Rattle.std.proofs.Common.{◌≡◌, ℕ, ◌+◌, ◌-◌, ◌<◌, ◌≤◌, Bool, true, false, cond, ◌⊎◌, inl, inr, refl, sym, ◌∙◌, subst, ap, arith, List, [], ◌∷◌, ◌++◌, Some, length, get_or, slice_get, set, take, drop, map}
-use Rattle.std.specs.Prelude.{◌==◌, filter, slice_index, slice_range}
-use Rattle.std.proofs.lemmas.Bool.{cases_order, cases_eq, cases_Bool, eq-eqb}
+use Rattle.std.specs.Prelude.{◌==◌, filter, slice_index}
+use Rattle.std.proofs.lemmas.Bool.{cases_order, eq-eqb}
 use Rattle.std.proofs.lemmas.Option.{get_or_from_slice_get}
-use Rattle.std.proofs.lemmas.List.{append-nil, map-append, get_or-map, drop-set-add, drop-set-lt, take_more_set, take-set-le, length-drop, length-map}
+use Rattle.std.proofs.lemmas.List.{append-nil, map-append, get_or-map, drop-set-add, drop-set-lt, take_more_set, take-set-le, length-drop}
 use Rattle.std.proofs.lemmas.List.Elements.{filter-append}
 use Rattle.hg_base.specs.Graph.{JoinsTwo}
 use Rattle.hg_base.specs.Edges.{ListedEdge, EdgeList, IsIn, renamed, renamed_edge}
@@ -59,8 +59,8 @@ filled_more f n i k out y l long =
             let far : count_of f i k ≤ place_by f n i - start_by f n k = omega (arith, more, m, next, c) in
             rw (count_same f i k (λ z. omega arith), eq-false (f i) k (λ z. omega arith), append-nil (take (count_of f i k) (drop (start_by f n k) out)))
             (ap (λ (p : ℕ). take (count_of f i k) (drop (start_by f n k) (set out p y))) at
-             ∙ ap (take (count_of f i k)) (drop-set-add (start_by f n k) out (place_by f n i - start_by f n k) y)
-             ∙ take-set-le (count_of f i k) (drop (start_by f n k) out) (place_by f n i - start_by f n k) y far))
+            ∙ ap (take (count_of f i k)) (drop-set-add (start_by f n k) out (place_by f n i - start_by f n k) y)
+            ∙ take-set-le (count_of f i k) (drop (start_by f n k) out) (place_by f n i - start_by f n k) y far))
       ]
     ]
   where
@@ -102,4 +102,4 @@ filled_step lot f keys i k out y start s e place l long first at key is next so_
     ∙ ap (λ (z : ℕ). map (λ x. placed (renamed_edge f x)) (filter (λ x. lot x == k) (take i s)) ++ cond (z == k) (y ∷ []) []) key
     ∙ ap (λ (z : PlacedEdge). map (λ x. placed (renamed_edge f x)) (filter (λ x. lot x == k) (take i s)) ++ cond (lot e == k) (z ∷ []) []) is
     ∙ sym (ap (λ (t : EdgeList). map placed (renamed f (filter (λ x. lot x == k) t))) next ∙ renamed_lot f (filter (λ x. lot x == k) (take i s ++ e ∷ []))
-       ∙ lot_more (λ x. placed (renamed_edge f x)) (λ x. lot x == k) (take i s) e)
+    ∙ lot_more (λ x. placed (renamed_edge f x)) (λ x. lot x == k) (take i s) e)

@@ -1,5 +1,5 @@
 -- Grids of tiles, as the code cuts them, beside their trees of merges.
-use Rattle.std.specs.Prelude.{◌≡◌, ℕ, ◌+◌, ◌*◌, ◌<◌, ◌≤◌, ◌==◌, ◌-◌, ◌/◌, ◌%◌, Bool, ◌&&◌, List, map, nat_lt, nat_le, if◌then◌else◌}
+use Rattle.std.specs.Prelude.{◌≡◌, ℕ, ◌+◌, ◌*◌, ◌≤◌, ◌-◌, ◌/◌, ◌%◌, ◌&&◌, List, map, nat_lt, nat_le, if◌then◌else◌}
 use Rattle.std.specs.List.{range_with_len}
 use Rattle.tile_plan.specs.Merges.{MergeTree, Tile, Merge, half, merge_tree, IsCut, tiles, merges, tile_at}
 use Rattle.tile_plan.specs.Sites.{Part, find, left_site, right_site, left_of, right_of}
@@ -26,13 +26,14 @@ abbrev pub AreHalves : MergeTree → Grid → Grid → Type 0
 AreHalves Tile a b = ⊥
 AreHalves (Merge by k x y) a b = IsTreeOf a x × IsTreeOf b y
 
--- the halves of a grid side by side, and one above the other
+-- the halves of a grid side by side
 pub record AreSideBySide (g a b : Grid) : Type 0 where
   pub first : a.columns ≡ half g.columns
   pub second : a.columns + b.columns ≡ g.columns
   pub first_rows : a.rows ≡ g.rows
   pub second_rows : b.rows ≡ g.rows
 
+-- the halves of a grid one above the other
 pub record AreStacked (g a b : Grid) : Type 0 where
   pub first : a.rows ≡ half g.rows
   pub second : a.rows + b.rows ≡ g.rows
@@ -61,7 +62,7 @@ lot_number n Tile s a b = s.first_tile
 lot_number n (Merge by k x y) s a b =
     if nat_lt a (s.first_tile + tiles x) && nat_lt b (s.first_tile + tiles x) then lot_number n x (left_site n x y s) a b else
     (if nat_le (s.first_tile + tiles x) a && nat_le (s.first_tile + tiles x) b then lot_number n y (right_site n x y s) a b
-     else n + s.first_merge + merges x + merges y)
+    else n + s.first_merge + merges x + merges y)
 
 -- where the root of a plan of n tiles stands; its mother is a part of its own, beyond the last
 abbrev pub root_of : ℕ → Site

@@ -17,7 +17,7 @@ cut zero c r = Tile
 cut (suc fuel) c r =
     if c * r == 1 then Tile else
     (if nat_le r c then Merge true (half c) (cut fuel (half c) r) (cut fuel (c - half c) r)
-     else Merge false (half r) (cut fuel c (half r)) (cut fuel c (r - half r)))
+    else Merge false (half r) (cut fuel c (half r)) (cut fuel c (r - half r)))
 
 -- the tree of a rectangle of c columns and r rows: one with at least as many columns as rows is cut by columns, and
 -- another by rows

@@ -1,14 +1,13 @@
 -- Tile plans, as contracts see them: what they are made of, and everything that follows from it.
-use Rattle.std.specs.Prelude.{◌≡◌, ℕ, ◌+◌, ◌-◌, ◌*◌, ◌/◌, ◌%◌, ◌<◌, ◌≤◌, ◌==◌, ◌≢◌, List, [], ◌∷◌, length, map, filter, Option, Some, None, Result, Ok, Err, if◌then◌else◌}
-use Rattle.std.specs.Int.{div_ceil}
+use Rattle.std.specs.Prelude.{◌≡◌, ℕ, ◌+◌, ◌-◌, ◌*◌, ◌<◌, ◌≤◌, ◌==◌, ◌≢◌, List, length, filter, Option, Some, None, Result, Ok, Err, if◌then◌else◌}
 use Rattle.std.specs.List.{flat_map}
 use Rattle.hg_base.specs.Graph.{WeightedGraph}
 use Rattle.hg_base.specs.Rank.{ranked}
 use Rattle.hg_base.specs.Edges.{ListedEdge, EdgeList, IsIn, renamed}
 use Rattle.hg_base.specs.Rising.{IsRising}
-use Rattle.tile_plan.specs.Merges.{tiles, tile_at}
+use Rattle.tile_plan.specs.Merges.{tiles}
 use Rattle.tile_plan.specs.Sites.{Part, post_order, is_lot_of, left_of, right_of}
-use Rattle.tile_plan.specs.Grids.{IsSmall, tiles_in, tree_in, part_in}
+use Rattle.tile_plan.specs.Grids.{tiles_in, part_in}
 use Rattle.tile_plan.specs.Frames.{vertices_in, grid_in, home_in, IsFrame}
 use Rattle.tile_plan.specs.Placing.{place_by, start_by}
 use Rattle.tile_plan.specs.declared.site.Grid.{Grid}
@@ -59,32 +58,35 @@ start p t = start_by (home p) (vertices p) t
 unfoldable pub part : TilePlan → ℕ → Part
 part p i = part_in (grid_of p) i
 
--- how many parts there are, and the number of the last, in which all are
+-- how many parts there are
 abbrev pub part_count : TilePlan → ℕ
 part_count p = 2 * tile_count p - 1
 
+-- the last part, in which all are
 abbrev pub root : TilePlan → ℕ
 root p = 2 * tile_count p - 2
 
--- the tiles of a part: the first, and how many
+-- the first tile of a part
 abbrev pub first_tile : TilePlan → ℕ → ℕ
 first_tile p i = (part p i).site.first_tile
 
+-- how many tiles it has
 abbrev pub tiles_of : TilePlan → ℕ → ℕ
 tiles_of p i = tiles (part p i).tree
 
--- the halves of a merge
+-- the left half of a merge
 abbrev pub left : TilePlan → ℕ → ℕ
 left p i = left_of (tile_count p) (part p i).tree (part p i).site
 
+-- the right half
 abbrev pub right : TilePlan → ℕ → ℕ
 right p i = right_of (tile_count p) (part p i).tree (part p i).site
 
--- the merge whose half a part is, and which half: 1 for the left one, 2 for the right one. The root's mother is
--- beyond the last part, and its weight 1.
+-- the merge whose half a part is; the root's mother is beyond the last part
 abbrev pub mother : TilePlan → ℕ → ℕ
 mother p i = (part p i).site.mother
 
+-- which half of it: 1 for the left one, 2 for the right one; the root's weight is 1
 abbrev pub weight : TilePlan → ℕ → ℕ
 weight p i = (part p i).site.weight
 
@@ -100,10 +102,11 @@ side_of w = if w == 1 then sides.Left else sides.Right
 abbrev pub parent : TilePlan → ℕ → Option (ℕ × Side)
 parent p i = if i == root p then None else Some (mother p i, side_of (weight p i))
 
--- the first place of a part, and how many it covers
+-- the first place of a part
 abbrev pub first_place : TilePlan → ℕ → ℕ
 first_place p i = start p (first_tile p i)
 
+-- where its places end
 abbrev pub end_place : TilePlan → ℕ → ℕ
 end_place p i = start p (first_tile p i + tiles_of p i)
 

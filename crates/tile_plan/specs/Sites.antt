@@ -1,5 +1,5 @@
 -- Where the parts of a plan stand in its tree of merges. The plan has `n` tiles.
-use Rattle.std.specs.Prelude.{◌≡◌, ℕ, ◌+◌, ◌<◌, ◌≤◌, ◌==◌, Bool, ◌&&◌, ◌||◌, List, [], ◌∷◌, ◌++◌, nat_lt, nat_le, if◌then◌else◌}
+use Rattle.std.specs.Prelude.{ℕ, ◌+◌, ◌==◌, Bool, ◌&&◌, ◌||◌, List, [], ◌∷◌, ◌++◌, nat_lt, nat_le, if◌then◌else◌}
 use Rattle.tile_plan.specs.Merges.{MergeTree, Tile, Merge, tiles, merges}
 use Rattle.tile_plan.specs.declared.site.Site.{Site}
 
@@ -62,11 +62,12 @@ is_lot_of (Merge by k x y) s a b =
     (is_among s.first_tile (tiles x) a && is_among (s.first_tile + tiles x) (tiles y) b)
     || (is_among s.first_tile (tiles x) b && is_among (s.first_tile + tiles x) (tiles y) a)
 
--- the numbers of the halves of a part, 0 and 0 for a tile
+-- the number of the left half of a part, 0 for a tile
 abbrev pub left_of : ℕ → MergeTree → Site → ℕ
 left_of n Tile s = 0
 left_of n (Merge by k x y) s = number n x (left_site n x y s)
 
+-- the number of the right half
 abbrev pub right_of : ℕ → MergeTree → Site → ℕ
 right_of n Tile s = 0
 right_of n (Merge by k x y) s = number n y (right_site n x y s)

@@ -23,6 +23,7 @@ pub fn places_of_a_plan()
     ensures tiles { (p : TilePlan) (t : ℕ) → IsPlan p → t < tile_count p → IsTile p t }
     ensures once { (p : TilePlan) → IsPlan p → IsOneToOne (vertices p) (place_of p) }
     ensures below { (p : TilePlan) (v : ℕ) → IsPlan p → v < vertices p → place_of p v < vertices p }
+    ensures some_tile { (p : TilePlan) → IsPlan p → 1 ≤ tile_count p }
 {}
 
 /// Each edge is in exactly one lot.

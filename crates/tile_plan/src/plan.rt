@@ -11,9 +11,8 @@ ghost use Rattle.tile_plan.specs.PlanFields.{HoldsLots, HoldsPlaces};
 
 use crate::fault::PlanFault;
 use crate::frame::Frame;
-use crate::placing;
 use crate::site::{Grid, Row, Side, Site};
-use crate::tables;
+use crate::{placing, tables};
 use edge_order::Order;
 use hg_base::{Graph, PlacedEdge, Room};
 use std::alloc::{AllocError, Global};
@@ -104,12 +103,7 @@ fn lots_of(
 
 impl Plan {
     /// The plan of a graph whose tiles are blocks of `tile` vertices: vertex v is in tile v / `tile`. The order is the graph's.
-    pub fn blocks(
-        alloc: Global,
-        graph: &Graph,
-        order: &Order,
-        tile: u32,
-    ) -> Result<Plan, PlanFault>
+    pub fn blocks(alloc: Global, graph: &Graph, order: &Order, tile: u32) -> Result<Plan, PlanFault>
         requires tile { 1 ≤ tile }
         requires order { order.now ≡ order_of graph.now }
         ensures { IsAnswer (blocks graph.now tile) result }

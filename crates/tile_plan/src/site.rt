@@ -66,7 +66,10 @@ impl Grid {
         if rows <= columns {
             let first = columns.div_ceil(2);
             (
-                Grid { columns: first, rows },
+                Grid {
+                    columns: first,
+                    rows,
+                },
                 Grid {
                     columns: columns - first,
                     rows,

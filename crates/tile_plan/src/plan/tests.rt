@@ -5,27 +5,30 @@ use crate::fault::PlanFault;
 use crate::site::Side;
 use edge_order::Order;
 use hg_base::{Edge, Graph, PlacedEdge, Room};
-use std::alloc::Global;
+use std::alloc::{AllocError, Global};
 use std::process::Abort;
 use std::test::Fail;
 use std::thread::Threads;
 
-// The graph of a picture of equal samples, 4 pixels wide and 2 high: each pixel's edge to the right, then down.
-fn picture(rt: &impl Abort, alloc: Global) -> Result<Graph, Fail> {
+// The edges of a picture of equal samples, 4 pixels wide and 2 high: each pixel's edge to the right, then down.
+const PICTURE: [(u32, u32); 10] = [
+    (0, 1),
+    (0, 4),
+    (1, 2),
+    (1, 5),
+    (2, 3),
+    (2, 6),
+    (3, 7),
+    (4, 5),
+    (5, 6),
+    (6, 7),
+];
+
+// The graph of 8 vertices with these edges of weight 0.
+fn graph_of(rt: &impl Abort, alloc: Global, ends: &[(u32, u32)]) -> Result<Graph, AllocError> {
+    assert!(rt; ends.len() <= 4_194_304);
     let mut edges = Vec::new(alloc);
-    let ends = [
-        (0, 1),
-        (0, 4),
-        (1, 2),
-        (1, 5),
-        (2, 3),
-        (2, 6),
-        (3, 7),
-        (4, 5),
-        (5, 6),
-        (6, 7),
-    ];
-    for (u, v) in ends {
+    for &(u, v) in ends {
         assert!(rt; u < 8 && v < 8 && u != v);
         edges.push(Edge { u, v, w: 0 })?;
     }
@@ -34,7 +37,7 @@ fn picture(rt: &impl Abort, alloc: Global) -> Result<Graph, Fail> {
 
 #[test]
 fn two_squares(rt: HostRuntime) -> Result<(), Fail> {
-    let graph = picture(&rt, rt.alloc())?;
+    let graph = graph_of(&rt, rt.alloc(), PICTURE.as_slice())?;
     let order = Order::of(&rt, rt.alloc(), &graph).expect(&rt, "ample memory");
     assert!(rt; graph.n() == 8);
     let plan = Plan::squares(rt.alloc(), &graph, &order, 4, 2, 2).expect(&rt, "ample memory");
@@ -47,14 +50,31 @@ fn two_squares(rt: HostRuntime) -> Result<(), Fail> {
     assert_eq!(rt; plan.parent(0), Some((2, Side::Left)));
     assert_eq!(rt; plan.parent(1), Some((2, Side::Right)));
     assert_eq!(rt; plan.parent(2), None);
-    assert_eq!(rt; (plan.range(0), plan.range(1), plan.range(2)), ((0, 4), (4, 4), (0, 8)));
-    let room = Room { places: 8, chunks: 2 };
+    assert_eq!(rt;
+        (plan.range(0), plan.range(1), plan.range(2)),
+        ((0, 4), (4, 4), (0, 8))
+    );
+    let room = Room {
+        places: 8,
+        chunks: 2,
+    };
     assert_eq!(rt; plan.room_of(0), room);
-    let room = Room { places: 4, chunks: 1 };
+    let room = Room {
+        places: 4,
+        chunks: 1,
+    };
     assert_eq!(rt; plan.room_of(1), room);
     let lot = [
-        PlacedEdge { rank: 2, a: 1, b: 4 },
-        PlacedEdge { rank: 8, a: 3, b: 6 },
+        PlacedEdge {
+            rank: 2,
+            a: 1,
+            b: 4,
+        },
+        PlacedEdge {
+            rank: 8,
+            a: 3,
+            b: 6,
+        },
     ];
     assert_eq!(rt; plan.lot(2), lot.as_slice());
     assert_eq!(rt; (plan.lot(0).len(), plan.lot(1).len()), (4, 4));
@@ -86,7 +106,11 @@ fn at_most_65536_tiles(rt: HostRuntime) {
         (1, None, Ok(1)),
         (65536, None, Ok(65536)),
         (65537, None, Err(PlanFault::TooManyTiles(65537))),
-        (262144, Some((512, 512, 1)), Err(PlanFault::TooManyTiles(262144))),
+        (
+            262144,
+            Some((512, 512, 1)),
+            Err(PlanFault::TooManyTiles(262144)),
+        ),
         (262144, Some((512, 512, 64)), Ok(64)),
     ];
     for (n, shape, answer) in rows {

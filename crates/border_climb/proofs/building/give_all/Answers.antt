@@ -1,5 +1,5 @@
 use Rattle.std.specs.Prelude.{slice_index_or}
-use Rattle.std.proofs.lemmas.List.{get_or_default, take_all}
+use Rattle.std.proofs.lemmas.List.{get_or_default}
 use Rattle.hg_base.specs.declared.graph.PlacedEdge.{PlacedEdge}
 use Rattle.std.proofs.Common.{List, ℕ}
 use Rattle.border_climb.proofs.Lots.{given-none, given-more, given-next}

@@ -1,4 +1,4 @@
-use Rattle.std.proofs.Common.{arith, ◌≤◌, ◌≡◌, sym, ◌∙◌}
+use Rattle.std.proofs.Common.{arith, ◌≡◌}
 use Rattle.border_climb.proofs.Pools.{seat-rank, some-map}
 use Rattle.border_climb.proofs.Ways.{up-used, further-above}
 use Rattle.border_climb.proofs.climbing.ahead.Goals as goal

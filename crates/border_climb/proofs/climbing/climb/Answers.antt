@@ -1,8 +1,4 @@
-use Rattle.std.proofs.Common.{arith, ◌≤◌, ◌≡◌, sym, ◌∙◌, subst, ℕ}
-use Rattle.std.specs.Prelude.{IfNone, IfSome, Option}
-use Rattle.border_climb.specs.declared.climbing.Met.{Met}
 use Rattle.border_climb.specs.Notes.{IsClimbable}
-use Rattle.border_climb.specs.Climbs.{IsFurther}
 use Rattle.border_climb.proofs.Pools.{some-map, rank-same, links-noted, links-back, noted-trans, noted-climbable, climbable-higher}
 use Rattle.border_climb.proofs.Ways.{further-noted, further-same, reached-on, ends-same, waiting-further, still-waits}
 use Rattle.border_climb.proofs.climbing.climb.Goals as goal

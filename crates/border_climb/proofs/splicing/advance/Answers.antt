@@ -1,6 +1,5 @@
-use Rattle.std.proofs.Common.{arith}
 use Rattle.border_climb.proofs.Seams.{seam-climbable}
-use Rattle.border_climb.proofs.Writes.{IsAdvance, advanced, advanced-rises}
+use Rattle.border_climb.proofs.Writes.{advanced, advanced-rises}
 use Rattle.border_climb.proofs.splicing.advance.Goals as goal
 
 pub climb-next-requires-clause-climbable : goal.climb-next-requires-clause-climbable

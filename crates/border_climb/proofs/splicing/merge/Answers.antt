@@ -1,4 +1,4 @@
-use Rattle.std.proofs.Common.{◌≡◌, sym, ap, ◌∙◌, Some}
+use Rattle.std.proofs.Common.{sym, ap, ◌∙◌, Some}
 use Rattle.border_climb.proofs.Writes.{seam-at, range-on}
 use Rattle.border_climb.proofs.splicing.merge.Goals as goal
 

@@ -1,4 +1,4 @@
-use Rattle.std.proofs.Common.{◌≡◌, refl, sym, ◌∙◌, Some, ℕ, true, false}
+use Rattle.std.proofs.Common.{refl, sym, ◌∙◌}
 use Rattle.std.proofs.lemmas.Bool.{true≢false}
 use Rattle.border_climb.proofs.Splices.{listed, climbed, list-same, opened-seam, spliced-one, spliced-merged, merged-sound, fresh-apart}
 use Rattle.border_climb.proofs.splicing.splice.Goals as goal

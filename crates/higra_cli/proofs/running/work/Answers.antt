@@ -1,24 +1,13 @@
-use Rattle.std.proofs.Common.{rules}
-use Rattle.higra_cli.proofs.ReadingLemmas.{IsFor-graph}
-use Rattle.higra_cli.specs.Reading.{graph_of}
+use Rattle.higra_cli.proofs.RunningLemmas.{Ends-stopped, Ends-written}
+use Rattle.higra_cli.specs.Reading.{told}
 use Rattle.higra_cli.proofs.running.work.Goals as goal
 
 pub returns-in-Ok-clause-ends : goal.returns-in-Ok-clause-ends
 returns-in-Ok-clause-ends g c =
-    let read = c.in_ok-input.ensures.ends.1 in (
-      (c.in_ok-request.request, c.in_ok-request.ensures.request),
-      (graph_of c.in_ok-input.input, read),
-      IsFor-graph _ _ (graph_of c.in_ok-input.input) read,
-      c.in_ok-input.ensures.ends.0,
-      search rules,
-    )
+    Ends-written _ c.in_ok-request.request c.in-Ok.input (told (g.S.Source.left c.args.source.now) (g.S.Source.faults c.args.source.now)) (told (g.S.Source.left c.input_for.new.source) (g.S.Source.faults c.input_for.new.source))
+    (told (g.K.Sink.content c.args.out.now) (g.K.Sink.faults c.args.out.now)) (told (g.K.Sink.content c.write_report.new.out) (g.K.Sink.faults c.write_report.new.out)) c.write_report.result c.in_ok-request.ensures.request c.in-Ok.ensures.ends.0 c.in-Ok.ensures.ends.1 c.write_report.ensures.ends
 
-pub returns-clause-ends : goal.returns-clause-ends
-returns-clause-ends g c =
-    let read = c.in_ok-input.ensures.ends.1 in (
-      (c.in_ok-request.request, c.in_ok-request.ensures.request),
-      IsFor-graph _ _ (graph_of c.in_ok-input.input) read,
-      c.in_ok-input.ensures.ends.0,
-      search rules,
-      (_, c.in-Err.ensures.prefix),
-    )
+pub returns-in-Err-clause-ends : goal.returns-in-Err-clause-ends
+returns-in-Err-clause-ends g c =
+    Ends-stopped _ c.in_ok-request.request (told (g.S.Source.left c.args.source.now) (g.S.Source.faults c.args.source.now)) (told (g.S.Source.left c.input_for.new.source) (g.S.Source.faults c.input_for.new.source))
+    (told (g.K.Sink.content c.args.out.now) (g.K.Sink.faults c.args.out.now)) c.in-Err.status c.in_ok-request.ensures.request c.in-Err.ensures.ends

@@ -1,4 +1,5 @@
 use Rattle.tile_plan.proofs.Ranges.{is_somewhere, is_tile, places-once, places-below}
+use Rattle.tile_plan.proofs.Reading.{some-tile}
 use Rattle.tile_plan.proofs.laws.places_of_a_plan.Goals as goal
 
 pub returns-clause-parts : goal.returns-clause-parts
@@ -12,3 +13,6 @@ returns-clause-once c = places-once
 
 pub returns-clause-below : goal.returns-clause-below
 returns-clause-below c = places-below
+
+pub returns-clause-some_tile : goal.returns-clause-some_tile
+returns-clause-some_tile c = some-tile

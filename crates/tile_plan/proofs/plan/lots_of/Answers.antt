@@ -1,12 +1,5 @@
-use Rattle.std.proofs.Common.{◌≡◌, ℕ, ◌+◌, ◌-◌, ◌*◌, ◌<◌, ◌≤◌, ◌∙◌, arith, sym, ap, subst, refl, List, length, map}
-use Rattle.std.specs.Prelude.{◌==◌, filter, slice_index, slice_range}
+use Rattle.std.proofs.Common.{◌≡◌, ℕ, ◌-◌, ◌*◌, ◌∙◌, arith, ap, length}
 use Rattle.std.proofs.lemmas.List.{length-map}
-use Rattle.hg_base.specs.Edges.{ListedEdge, EdgeList, renamed}
-use Rattle.hg_base.specs.Placed.{placed}
-use Rattle.tile_plan.specs.Grids.{lot_in, tiles_in}
-use Rattle.tile_plan.specs.Placing.{IsTable, start_by}
-use Rattle.tile_plan.specs.Plan.{tile_count, part_count, grid_of, lot_edges}
-use Rattle.tile_plan.specs.declared.site.Grid.{Grid}
 use Rattle.tile_plan.proofs.Agreeing.{lots-hold}
 use Rattle.tile_plan.proofs.plan.lots_of.Goals as goal
 

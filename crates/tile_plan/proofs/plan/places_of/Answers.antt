@@ -1,8 +1,8 @@
-use Rattle.std.proofs.Common.{◌≡◌, ℕ, ◌+◌, ◌<◌, ◌∙◌, arith, sym, ap, subst, refl, List, length}
+use Rattle.std.proofs.Common.{◌≡◌, ℕ, ◌<◌, ◌∙◌, arith, sym, ap, subst, List, length}
 use Rattle.std.specs.Prelude.{slice_index}
 use Rattle.hg_base.specs.Edges.{IsOneToOne}
 use Rattle.tile_plan.specs.Placing.{AreKeys, IsTable, place_by}
-use Rattle.tile_plan.specs.Plan.{place_of, vertices}
+use Rattle.tile_plan.specs.Plan.{vertices}
 use Rattle.tile_plan.proofs.Counting.{place-once, place-below}
 use Rattle.tile_plan.proofs.Agreeing.{starts-agree, places-agree}
 use Rattle.tile_plan.proofs.plan.places_of.Goals as goal

@@ -1,4 +1,4 @@
-use Rattle.std.proofs.Common.{arith, sym, ◌∙◌}
+use Rattle.std.proofs.Common.{sym, ◌∙◌}
 use Rattle.tile_plan.proofs.Cuts.{number-one, number-merge}
 use Rattle.tile_plan.proofs.site.number_of.Goals as goal
 

@@ -1,7 +1,7 @@
-use Rattle.std.proofs.Common.{◌≡◌, ◌<◌, ◌+◌, ◌*◌, ◌/◌, ◌%◌, ◌∙◌, arith, sym, ap, subst}
+use Rattle.std.proofs.Common.{◌≡◌, ◌<◌, ◌+◌, ◌*◌, ◌/◌, ◌%◌, ◌∙◌, arith, sym, subst}
 use Rattle.tile_plan.specs.declared.site.Grid.{Grid}
 use Rattle.tile_plan.specs.Grids.{tiles_in, tile_in}
-use Rattle.tile_plan.specs.Frames.{grid_in, home_in}
+use Rattle.tile_plan.specs.Frames.{home_in}
 use Rattle.tile_plan.proofs.Growing.{IsTable-push}
 use Rattle.tile_plan.proofs.Laying.{vertex-place, vertex-tile}
 use Rattle.tile_plan.proofs.tables.homes.Goals as goal

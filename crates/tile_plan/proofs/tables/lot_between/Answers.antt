@@ -1,6 +1,5 @@
-use Rattle.std.proofs.Common.{◌∙◌, ap, arith, sym, refl}
-use Rattle.tile_plan.specs.Grids.{tree_in, lot_in}
-use Rattle.tile_plan.proofs.Laying.{lot_in-same, lot_in-below, lot-read, tree_in-is}
+use Rattle.std.proofs.Common.{arith}
+use Rattle.tile_plan.proofs.Laying.{lot_in-same, lot_in-below, lot-read}
 use Rattle.tile_plan.proofs.tables.lot_between.Goals as goal
 
 pub returns-then-first-second-clause-value : goal.returns-then-first-second-clause-value

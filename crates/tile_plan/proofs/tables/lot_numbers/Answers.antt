@@ -1,9 +1,7 @@
-use Rattle.std.proofs.Common.{◌≡◌, ◌+◌, ◌<◌, ◌∙◌, arith, sym, ap, subst, map, take, ℕ, [], ◌∷◌, ◌++◌, get_or, length}
+use Rattle.std.proofs.Common.{◌≡◌, ◌+◌, ◌<◌, ◌∙◌, arith, sym, ap, subst, map, take, [], ◌∷◌, ◌++◌}
 use Rattle.std.specs.Prelude.{slice_index}
-use Rattle.std.proofs.lemmas.Bool.{cases_lt}
-use Rattle.std.proofs.lemmas.List.{map-append, take_all, get_or_push, get_or_append_left}
+use Rattle.std.proofs.lemmas.List.{map-append, take_all}
 use Rattle.hg_base.specs.Edges.{ListedEdge, EdgeList, IsIn}
-use Rattle.hg_base.specs.Rising.{IsRising}
 use Rattle.edge_order.specs.Order.{with_number, number_at_rank}
 use Rattle.tile_plan.specs.Grids.{lot_in}
 use Rattle.tile_plan.specs.Plan.{IsEdgeAmong}

@@ -1,9 +1,8 @@
-use Rattle.std.proofs.Common.{◌≡◌, ℕ, ◌+◌, ◌-◌, ◌<◌, ◌∙◌, arith, sym, ap, subst, refl, map, take, drop, set, length, get_or, length-set, List, [], ◌∷◌, ◌++◌, cond}
+use Rattle.std.proofs.Common.{◌≡◌, ℕ, ◌+◌, ◌-◌, ◌<◌, ◌∙◌, arith, sym, ap, map, take, drop, length, get_or, length-set, List}
 use Rattle.std.specs.Prelude.{◌==◌, slice_index, filter}
 use Rattle.std.proofs.lemmas.List.{get_or_read, take_all}
-use Rattle.hg_base.specs.Edges.{ListedEdge, EdgeList, renamed, renamed_edge}
+use Rattle.hg_base.specs.Edges.{EdgeList, renamed}
 use Rattle.hg_base.specs.Placed.{placed}
-use Rattle.hg_base.specs.declared.graph.PlacedEdge.{PlacedEdge}
 use Rattle.edge_order.specs.Order.{with_number, number_at_rank}
 use Rattle.tile_plan.specs.Placing.{place_by, start_by, count_of}
 use Rattle.tile_plan.proofs.Counting.{place-is, place-below, start-next}

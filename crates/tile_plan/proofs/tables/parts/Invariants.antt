@@ -1,4 +1,4 @@
-use Rattle.std.proofs.Common.{◌≡◌, ◌*◌, ◌-◌, map}
+use Rattle.std.proofs.Common.{◌≡◌, map}
 use Rattle.std.specs.List.{range_with_len}
 use Rattle.tile_plan.specs.Grids.{row_of_part, part_in, tiles_in}
 use Rattle.tile_plan.proofs.tables.parts.Given as goal

@@ -1,4 +1,4 @@
-use Rattle.std.proofs.Common.{ap, subst, sym, refl, ◌∙◌, ◌+◌, ◌≤◌, ◌^◌, ℕ, arith}
+use Rattle.std.proofs.Common.{ap, subst, sym, refl, ◌+◌, ◌≤◌, ◌^◌, arith}
 use Rattle.border_climb.specs.Stands.{PartState}
 use Rattle.border_climb.specs.Splicing.{KeepsRange, IsLinkedList}
 use Rattle.border_climb.specs.Parts.{listed}

@@ -1,4 +1,4 @@
-use Rattle.std.proofs.Common.{subst, sym, ◌<◌, ℕ, arith}
+use Rattle.std.proofs.Common.{subst, ◌<◌, arith}
 use Rattle.std.specs.Prelude.{IfSome}
 use Rattle.node_region.specs.Pool.{IsUsed}
 use Rattle.border_climb.specs.Stands.{PartState}

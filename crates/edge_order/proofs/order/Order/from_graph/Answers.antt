@@ -3,7 +3,7 @@ use Rattle.std.proofs.Common.{refl}
 use Rattle.edge_order.proofs.order.Order.from_graph.Goals as goal
 
 pub invariant_of-result : goal.invariant_of-result
-invariant_of-result c = (
+invariant_of-result g c = (
   c.args.graph.now,
   record {
     few = c.in_ok-edges.ensures.few;

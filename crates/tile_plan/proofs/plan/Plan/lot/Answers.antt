@@ -1,4 +1,4 @@
-use Rattle.std.proofs.Common.{◌≡◌, arith, subst, sym, ap, ◌∙◌, ◌<◌, ◌+◌, ◌-◌, ℕ, List, take, drop}
+use Rattle.std.proofs.Common.{arith, ap, ◌∙◌, ◌+◌, ℕ, List}
 use Rattle.std.specs.Prelude.{slice_index, slice_range}
 use Rattle.std.proofs.lemmas.List.{get_or_read}
 use Rattle.hg_base.specs.declared.graph.PlacedEdge.{PlacedEdge}

@@ -1,4 +1,4 @@
-use Rattle.std.proofs.Common.{◌≡◌, ◌∙◌, sym, arith}
+use Rattle.std.proofs.Common.{◌∙◌, sym, arith}
 use Rattle.tile_plan.proofs.Reading.{holds-as, some-tile, rows-length, row-read, parent-left, parent-right}
 use Rattle.tile_plan.proofs.plan.Plan.parent.Goals as goal
 

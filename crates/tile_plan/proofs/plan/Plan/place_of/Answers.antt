@@ -1,4 +1,4 @@
-use Rattle.std.proofs.Common.{arith, subst, sym, ◌<◌}
+use Rattle.std.proofs.Common.{arith}
 use Rattle.std.proofs.lemmas.List.{get_or_read}
 use Rattle.tile_plan.proofs.Reading.{holds-as}
 use Rattle.tile_plan.proofs.Ranges.{places-below}

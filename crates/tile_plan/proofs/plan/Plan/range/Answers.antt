@@ -1,5 +1,5 @@
-use Rattle.std.proofs.Common.{◌≡◌, ℕ, ◌+◌, ◌-◌, ◌∙◌, arith, ap}
-use Rattle.tile_plan.specs.Plan.{start, first_tile, tiles_of}
+use Rattle.std.proofs.Common.{◌+◌, ◌-◌, ◌∙◌, arith, ap}
+use Rattle.tile_plan.specs.Plan.{start}
 use Rattle.tile_plan.proofs.Reading.{holds-as, some-tile, rows-length, row-read, start-read}
 use Rattle.tile_plan.proofs.Ranges.{is_somewhere, start-rises}
 use Rattle.tile_plan.proofs.plan.Plan.range.Goals as goal

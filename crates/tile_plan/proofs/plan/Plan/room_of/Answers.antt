@@ -1,6 +1,6 @@
-use Rattle.std.proofs.Common.{◌≡◌, ℕ, ◌+◌, ◌-◌, ◌∙◌, arith, ap, subst, sym}
-use Rattle.tile_plan.specs.Plan.{start, room_tiles, IsLargestFrom}
-use Rattle.tile_plan.proofs.Reading.{holds-as, some-tile, rows-length, row-read, start-read, room-at}
+use Rattle.std.proofs.Common.{ℕ, ◌+◌, ◌-◌, ◌∙◌, arith, ap, subst, sym}
+use Rattle.tile_plan.specs.Plan.{start, IsLargestFrom}
+use Rattle.tile_plan.proofs.Reading.{holds-as, rows-length, row-read, start-read, room-at}
 use Rattle.tile_plan.proofs.Ranges.{is_largest, start-rises}
 use Rattle.tile_plan.proofs.plan.Plan.room_of.Goals as goal
 

@@ -1,7 +1,4 @@
-use Rattle.std.proofs.Common.{◌≡◌, ℕ, ◌<◌, arith, subst, sym, ap, ◌∙◌}
-use Rattle.std.proofs.lemmas.List.{get_or_read}
-use Rattle.tile_plan.specs.Plan.{vertices, place_of}
-use Rattle.tile_plan.proofs.Reading.{holds-as, IsVertexAt, vertex-read}
+use Rattle.tile_plan.proofs.Reading.{holds-as, vertex-read}
 use Rattle.tile_plan.proofs.plan.Plan.vertex_at.Goals as goal
 
 pub returns-clause-value : goal.returns-clause-value

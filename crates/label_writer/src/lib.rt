@@ -1,0 +1,11 @@
+//! Labels of vertices, written as a text and as a picture.
+#![tactic(auto)]
+
+mod picture;
+mod report;
+
+pub use picture::{LabelFault, write_pgm};
+pub use report::write_labels;
+
+#[cfg(test)]
+mod tests;

@@ -1,0 +1,11 @@
+pub mod Numbers
+pub mod Cuts
+pub mod Samples
+pub mod Reading
+pub mod Steps
+pub mod Endings
+pub mod Forms
+pub mod Grids
+pub mod Generating
+pub mod Spelled
+pub mod Unspelled

@@ -1,0 +1,18 @@
+use Rattle.std.proofs.Common.{◌∙◌, ◌++◌, take, arith, append_assoc}
+use Rattle.std.proofs.lemmas.List.{take_more}
+use Rattle.pgm_reader.proofs.Reading.{read-more}
+use Rattle.pgm_reader.proofs.decoder.PictureDecoder.feed.Goals as goal
+
+pub loop-b-preserved : goal.loop-b-preserved
+loop-b-preserved c = record {
+  taken = omega (arith, c.read.ensures.taken, c.loop-b.invariant.taken);
+  read = λ bytes read.
+      let before = bytes ++ take c.loop-b.b-index c.args.piece.now in
+      rw (take_more c.args.piece.now c.loop-b.b-index 0 c.loop-b-test.true, ← append_assoc)
+      (read-more c.loop-b.self c.read.new.self _ before c.read.ensures (c.loop-b.invariant.read bytes read));
+  stays = λ out. c.read.ensures.out (c.loop-b.invariant.stays out);
+  sized = λ sized.
+      let before = c.loop-b.invariant.sized sized in
+      let after = c.read.ensures.sized before.0 in
+      (after.0, after.1 ∙ before.1);
+}

@@ -1,0 +1,21 @@
+//! Pictures in the binary form P5 of the PGM format, read whole or in pieces with every fault at its place; their
+//! graphs; and pictures made from a seed.
+#![tactic(auto)]
+
+mod decoder;
+mod grid;
+mod laws;
+mod lexer;
+mod made;
+mod picture;
+mod rules;
+mod stage;
+
+pub use decoder::{PictureDecoder, is_picture, read_picture};
+pub use grid::graph_of;
+pub use laws::pictures_are_spellings;
+pub use made::make_picture;
+pub use picture::Picture;
+
+#[cfg(test)]
+mod tests;

@@ -1,0 +1,88 @@
+ghost use Rattle.std.specs.Prelude.{◌≡◌, true};
+ghost use Rattle.hg_base.specs.Levels.{AltitudesRise};
+ghost use Rattle.partition_tree.specs.Ranked.{IsRankedList};
+
+use super::zones;
+use hg_base::OutOfMemory;
+use partition_tree::{Ranked, Tree, write_tree};
+use std::alloc::Global;
+use std::process::Abort;
+use std::test::Fail;
+
+// Edges in order, from their ends, numbers and altitudes.
+const TRIANGLE: [Ranked; 3] = [
+    Ranked {
+        u: 0,
+        v: 1,
+        edge: 0,
+        altitude: 1,
+    },
+    Ranked {
+        u: 1,
+        v: 2,
+        edge: 1,
+        altitude: 1,
+    },
+    Ranked {
+        u: 0,
+        v: 2,
+        edge: 2,
+        altitude: 1,
+    },
+];
+
+const APART: [Ranked; 1] = [Ranked {
+    u: 0,
+    v: 1,
+    edge: 0,
+    altitude: 4,
+}];
+
+// Whether altitudes don't fall from child to parent.
+fn rises(tree: &Tree) -> bool
+    ensures { result ≡ true → AltitudesRise tree.now }
+{
+    for i in 0..tree.nodes() {
+        if tree.altitude(tree.parent(i)) < tree.altitude(i) {
+            return false;
+        }
+    }
+    true
+}
+
+fn assert_zones(
+    rt: &impl Abort,
+    alloc: Global,
+    n: u32,
+    list: &[Ranked],
+    report: &str,
+) -> Result<(), OutOfMemory>
+    requires { IsRankedList n list.now }
+{
+    let tree = Tree::of_list(alloc, n, list)?;
+    assert!(rt; rises(&tree));
+    let zones = zones(alloc, &tree)?;
+    let text = write_tree(alloc, &zones)?;
+    assert_eq!(rt; text.as_slice(), report.as_bytes());
+    Ok(())
+}
+
+#[test]
+fn reports(rt: HostRuntime) -> Result<(), Fail> {
+    assert_zones(&rt, rt.alloc(), 1, &[], "tree 1 1\n0 0 0\n")?;
+    assert_zones(
+        &rt,
+        rt.alloc(),
+        3,
+        &TRIANGLE,
+        "tree 4 3\n0 3 0\n1 3 0\n2 3 0\n3 3 1\n",
+    )?;
+    assert_zones(
+        &rt,
+        rt.alloc(),
+        3,
+        &APART,
+        "tree 4 3\n0 3 0\n1 3 0\n2 2 0\n3 3 4\n",
+    )?;
+    Ok(())
+}

@@ -1,0 +1,15 @@
+-- The last node up to a level on each path, and the leaves' keys by it.
+use Rattle.std.specs.Prelude.{◌≡◌, ℕ, ◌<◌, ◌≤◌, List, length, get_or, Option, Some, None}
+use Rattle.hg_base.specs.Tree.{ParentTree, altitude}
+use Rattle.hg_base.specs.Levels.{IsTop}
+
+-- for each node up to the level the last such node on its path; all are nodes
+pub record AreTops (t : ParentTree) (level : ℕ) (tops : List ℕ) : Type 0 where
+  pub one_each : length tops ≡ length t.parents
+  pub nodes : (i : ℕ) → i < length t.parents → get_or tops i 0 < length t.parents
+  pub each : (i : ℕ) → i < length t.parents → altitude t i ≤ level → IsTop t level i (get_or tops i 0)
+
+-- each of the first n has its value as a key
+pub record AreFirstKeys (n : ℕ) (values : List ℕ) (keys : List (Option ℕ)) : Type 0 where
+  pub one_each : length keys ≡ n
+  pub each : (x : ℕ) → x < n → get_or keys x None ≡ Some (get_or values x 0)

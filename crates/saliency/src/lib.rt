@@ -1,0 +1,13 @@
+//! Saliencies of edges, and the regions of a tree cut at a level.
+#![tactic(auto)]
+
+mod regions;
+mod report;
+mod values;
+
+pub use regions::cut;
+pub use report::write_saliency;
+pub use values::saliency;
+
+#[cfg(test)]
+mod tests;

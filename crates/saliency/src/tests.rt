@@ -1,0 +1,192 @@
+ghost use Rattle.std.specs.Prelude.{◌≡◌, true};
+ghost use Rattle.hg_base.specs.Levels.{AltitudesRise};
+ghost use Rattle.partition_tree.specs.Ranked.{IsRankedList};
+ghost use Rattle.saliency.specs.Values.{EndsShareRoots};
+
+use super::{cut, saliency, write_saliency};
+use hg_base::{Edge, Graph, OutOfMemory};
+use partition_tree::{Ranked, Tree};
+use std::alloc::{AllocError, Global};
+use std::process::Abort;
+use std::test::Fail;
+
+// The edges of graphs in order, from their ends, numbers and altitudes.
+const TRIANGLE: [Ranked; 3] = [
+    Ranked {
+        u: 0,
+        v: 1,
+        edge: 0,
+        altitude: 1,
+    },
+    Ranked {
+        u: 1,
+        v: 2,
+        edge: 1,
+        altitude: 1,
+    },
+    Ranked {
+        u: 0,
+        v: 2,
+        edge: 2,
+        altitude: 1,
+    },
+];
+
+const RING: [Ranked; 4] = [
+    Ranked {
+        u: 0,
+        v: 1,
+        edge: 0,
+        altitude: 1,
+    },
+    Ranked {
+        u: 2,
+        v: 3,
+        edge: 2,
+        altitude: 2,
+    },
+    Ranked {
+        u: 0,
+        v: 3,
+        edge: 3,
+        altitude: 3,
+    },
+    Ranked {
+        u: 1,
+        v: 2,
+        edge: 1,
+        altitude: 4,
+    },
+];
+
+const PATH: [Ranked; 3] = [
+    Ranked {
+        u: 0,
+        v: 1,
+        edge: 0,
+        altitude: 1,
+    },
+    Ranked {
+        u: 2,
+        v: 3,
+        edge: 2,
+        altitude: 2,
+    },
+    Ranked {
+        u: 1,
+        v: 2,
+        edge: 1,
+        altitude: 5,
+    },
+];
+
+const APART: [Ranked; 1] = [Ranked {
+    u: 0,
+    v: 1,
+    edge: 0,
+    altitude: 4,
+}];
+
+// The graph with these edges, each two ends and a weight.
+fn graph(
+    rt: &impl Abort,
+    alloc: Global,
+    n: u32,
+    rows: &[(u32, u32, u32)],
+) -> Result<Graph, AllocError> {
+    assert!(rt; 1 <= n);
+    assert!(rt; n <= 1_048_576);
+    assert!(rt; rows.len() <= 4_194_304);
+    let mut edges = Vec::new(alloc);
+    for &(u, v, w) in rows {
+        assert!(rt; u < n && v < n && u != v);
+        edges.push(Edge { u, v, w })?;
+    }
+    Ok(Graph::new(n, edges))
+}
+
+// Whether the ends of each edge have one root.
+fn share_roots(rt: &impl Abort, graph: &Graph, tree: &Tree) -> bool
+    ensures { result ≡ true → EndsShareRoots graph.now tree.now }
+{
+    for e in 0..graph.m() {
+        let edge = graph.edge(e);
+        assert!(rt; edge.u < tree.nodes() && edge.v < tree.nodes());
+        let Some(_) = tree.lca(edge.u, edge.v) else {
+            return false;
+        };
+    }
+    true
+}
+
+// Whether altitudes don't fall from child to parent.
+fn rises(tree: &Tree) -> bool
+    ensures { result ≡ true → AltitudesRise tree.now }
+{
+    for i in 0..tree.nodes() {
+        if tree.altitude(tree.parent(i)) < tree.altitude(i) {
+            return false;
+        }
+    }
+    true
+}
+
+fn assert_saliency(
+    rt: &impl Abort,
+    alloc: Global,
+    n: u32,
+    rows: &[(u32, u32, u32)],
+    list: &[Ranked],
+    report: &str,
+) -> Result<(), OutOfMemory>
+    requires { IsRankedList n list.now }
+{
+    let graph = graph(rt, alloc, n, rows).map_err(|_| OutOfMemory)?;
+    let tree = Tree::of_list(alloc, n, list)?;
+    assert!(rt; tree.leaves() == graph.n());
+    assert!(rt; share_roots(rt, &graph, &tree));
+    let values = saliency(alloc, &graph, &tree)?;
+    let text = write_saliency(alloc, &values)?;
+    assert_eq!(rt; text.as_slice(), report.as_bytes());
+    Ok(())
+}
+
+fn assert_cut(
+    rt: &impl Abort,
+    alloc: Global,
+    n: u32,
+    list: &[Ranked],
+    level: u64,
+    labels: &[u32],
+) -> Result<(), OutOfMemory>
+    requires { IsRankedList n list.now }
+{
+    let tree = Tree::of_list(alloc, n, list)?;
+    assert!(rt; rises(&tree));
+    let regions = cut(alloc, &tree, level)?;
+    assert_eq!(rt; regions.len() as usize, labels.len());
+    for x in 0..regions.len() {
+        assert_eq!(rt; regions.label(x), labels[x as usize]);
+    }
+    Ok(())
+}
+
+#[test]
+fn saliencies(rt: HostRuntime) -> Result<(), Fail> {
+    let edges: &[(u32, u32, u32)] = &[(0, 1, 1), (1, 2, 1), (0, 2, 1)];
+    let report = "saliency 3\n0 1\n1 1\n2 1\n";
+    assert_saliency(&rt, rt.alloc(), 3, edges, &TRIANGLE, report)?;
+    let edges: &[(u32, u32, u32)] = &[(0, 1, 1), (1, 2, 4), (2, 3, 2), (0, 3, 3)];
+    let report = "saliency 4\n0 1\n1 3\n2 2\n3 3\n";
+    assert_saliency(&rt, rt.alloc(), 4, edges, &RING, report)?;
+    let edges: &[(u32, u32, u32)] = &[(0, 1, 4)];
+    assert_saliency(&rt, rt.alloc(), 3, edges, &APART, "saliency 1\n0 4\n")?;
+    Ok(())
+}
+
+#[test]
+fn regions(rt: HostRuntime) -> Result<(), Fail> {
+    assert_cut(&rt, rt.alloc(), 4, &PATH, 1, &[1, 1, 2, 3])?;
+    assert_cut(&rt, rt.alloc(), 3, &APART, 4, &[1, 1, 2])?;
+    Ok(())
+}

@@ -14,3 +14,4 @@ pub mod Places
 pub mod States
 pub mod Handing
 pub mod Joins
+pub mod Ending

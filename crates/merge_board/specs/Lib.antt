@@ -5,3 +5,4 @@ pub mod Fields
 pub mod Plays
 pub mod Calls
 pub mod SeatsFields
+pub mod ReceiptFields

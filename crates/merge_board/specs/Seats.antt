@@ -1,5 +1,5 @@
 -- Seats: what contracts see of one, and how each step changes its view.
-use Rattle.std.specs.Prelude.{◌≡◌, ◌≢◌, ℕ, ◌+◌, ◌-◌, ◌<◌, ◌≤◌, List, [], ◌∷◌, max, Option, Some, None, true, false}
+use Rattle.std.specs.Prelude.{◌≡◌, ◌≢◌, ℕ, ◌+◌, ◌-◌, ◌<◌, ◌≤◌, List, [], ◌∷◌, length, All, max, Option, Some, None, true, false}
 use Rattle.tile_plan.specs.Plan.{TilePlan, tile_count}
 use Rattle.atomic_table.specs.Seated.{TableId}
 use Rattle.merge_board.specs.declared.view.View.{View}
@@ -27,6 +27,17 @@ IsReady seat = (seat.view.hand ≡ None) × (seat.view.missed ≡ false)
 
 abbrev pub IsDone : SeatState → Type 0
 IsDone seat = (seat.view.hand ≡ None) × (seat.view.missed ≡ true)
+
+-- A receipt as contracts see it: how many tiles, workers and edges the board had that was closed.
+pub record ReceiptState : Type 0 where
+  pub tiles : ℕ
+  pub workers : ℕ
+  pub edges : ℕ
+
+-- all of the board's seats are in
+pub record AreAllSeats (seats : List SeatState) (board : BoardState) : Type 0 where
+  pub count : length seats ≡ board.workers
+  pub each : All (λ seat. IsSeatOf seat board) seats
 
 -- the plan without a vertex
 abbrev pub no_plan : TilePlan

@@ -5,6 +5,7 @@ mod arrival;
 mod board;
 pub mod laws;
 mod place;
+mod receipt;
 mod rule;
 mod seat;
 mod seats;
@@ -13,6 +14,7 @@ mod view;
 
 pub use arrival::Arrival;
 pub use board::Board;
+pub use receipt::Receipt;
 pub use seat::Seat;
 pub use seats::Seats;
 pub use serving::serve;

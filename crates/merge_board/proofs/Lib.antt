@@ -15,3 +15,4 @@ pub mod States
 pub mod Handing
 pub mod Joins
 pub mod Ending
+pub mod Opening

@@ -6,3 +6,5 @@ pub mod Plays
 pub mod Calls
 pub mod SeatsFields
 pub mod ReceiptFields
+pub mod Opening
+pub mod Exchanges

@@ -1,17 +1,25 @@
 //! What holds of every board at every moment, each law as the contract of a function that does nothing.
 //!
 //! The rule holds when the board is set up, and each kind of step keeps it, from any state that meets it: the draw,
-//! the three kinds of arrival, the split of a seat and the join of two. The exchanges of a slot that is out with a
-//! seat change neither word nor view nor a slot at home, so they keep it as they are.
-ghost use Rattle.std.specs.Prelude.{◌≡◌, ℕ, ◌+◌, ◌%◌, ◌^◌, ◌<◌, ◌≤◌, [], ◌∷◌, ◌++◌, None, Some, Option, true, false, List};
-ghost use Rattle.atomic_table.specs.Table.{State, Allows, Splits, Joins};
-ghost use Rattle.tile_plan.specs.Plan.{TilePlan, weight, root};
+//! the three kinds of arrival, the two exchanges of a slot that is out with a seat, the split of a seat and the join
+//! of two.
+ghost use Rattle.std.specs.Prelude.{◌≡◌, ℕ, ◌+◌, ◌%◌, ◌^◌, ◌<◌, ◌≤◌, [], ◌∷◌, ◌++◌, None, Some, Option, true, false, List, replicate};
+ghost use Rattle.atomic_table.specs.Table.{State, Allows, Splits, Joins, opening};
+ghost use Rattle.tile_plan.specs.Plan.{TilePlan, IsPlan, tile_count, weight, root};
 ghost use Rattle.border_climb.specs.Stands.{PartState};
 ghost use Rattle.merge_board.specs.Fits.{Fits};
 ghost use Rattle.merge_board.specs.Board.{IsBoard, IsPart, IsStatus, door};
-ghost use Rattle.merge_board.specs.Seats.{split_left, split_right, joined, left_over};
+ghost use Rattle.merge_board.specs.Seats.{first_view, split_left, split_right, joined, left_over};
+ghost use Rattle.merge_board.specs.Opening.{AreOpened};
+ghost use Rattle.merge_board.specs.Exchanges.{exchanged};
 ghost use Rattle.merge_board.specs.Plays.{Hold, Draws, Arrives, AreBelow};
 ghost use Rattle.merge_board.specs.declared.view.View.{View};
+
+/// The rule holds where a board is set up: each word is 0, each tile's slot has its part, and one seat stands for all
+/// workers.
+pub fn a_new_board_keeps_the_rule()
+    ensures { (p : TilePlan) (workers : ℕ) (slots : List (Option PartState)) → IsPlan p → 1 ≤ workers → workers ≤ 64 → AreOpened p slots → IsBoard p workers (opening (replicate (tile_count p + 1) 0) slots (first_view p workers)) }
+{}
 
 /// A draw keeps the rule, whatever it finds.
 pub fn draws_keep_the_rule()
@@ -36,4 +44,11 @@ pub fn seats_keep_the_rule()
 /// exactly the edges at and below it.
 pub fn parts_of_a_board()
     ensures { (p : TilePlan) (workers i : ℕ) (s : State (Option PartState) View) → IsBoard p workers s → IsPart p i → IsStatus p s i }
+{}
+
+/// Both exchanges keep the rule, where a part is put into a slot that is out with a seat and where one is taken out:
+/// they change neither words nor views nor slots at home, and the seat's view stays.
+pub fn exchanges_keep_the_rule()
+    ensures rule { (p : TilePlan) (workers : ℕ) (s : State (Option PartState) View) (me : Hold) (x : Option PartState) → IsBoard p workers s → IsBoard p workers (exchanged s me x).0 }
+    ensures view { (s : State (Option PartState) View) (me : Hold) (x : Option PartState) → (exchanged s me x).1.0 ≡ me.0 }
 {}

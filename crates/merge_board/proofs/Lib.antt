@@ -16,3 +16,4 @@ pub mod Handing
 pub mod Joins
 pub mod Ending
 pub mod Opening
+pub mod Rooms

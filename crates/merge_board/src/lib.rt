@@ -10,6 +10,7 @@ mod rule;
 mod seat;
 mod seats;
 mod serving;
+mod slots;
 mod view;
 
 pub use arrival::Arrival;

@@ -1,24 +1,22 @@
 -- What the table asks of each step: whatever the board is when the word changes, the step keeps the rule.
-use Rattle.std.proofs.Common.{◌≡◌, ◌≢◌, ℕ, zero, suc, ◌+◌, ◌-◌, ◌*◌, ◌^◌, ◌%◌, ◌<◌, ◌≤◌, ◌⊎◌, inl, inr, refl, sym, ◌∙◌, subst, ap, arith, true, false, Bool, List, [], ◌∷◌, ◌++◌, length, max}
-use Rattle.std.proofs.lemmas.Bool.{cases_eq, cases_lt}
+use Rattle.std.proofs.Common.{◌≡◌, ℕ, ◌+◌, ◌^◌, ◌%◌, ◌<◌, ◌≤◌, ◌⊎◌, inl, inr, refl, sym, ◌∙◌, subst, ap, arith, false, [], length}
+use Rattle.std.proofs.lemmas.Bool.{cases_lt}
 use Rattle.std.proofs.Math.Nat.{mod-eq_of_lt}
 use Rattle.std.specs.Prelude.{Option, Some, None, slice_set, slice_index}
 use mathlib.Core.Option.{some, none}
-use mathlib.Core.Option as maybe
 use lib.ListN.{get_elem?}
-use Rattle.atomic_table.specs.Table.{State, Me, Act, keeps, takes, gives, chain, Valid, stepped, Allows, Splits, Joins, carried_after, homes_after}
-use Rattle.tile_plan.specs.Plan.{TilePlan, IsPlan, tile_count, part_count, root, mother, weight, sibling}
+use Rattle.atomic_table.specs.Table.{State, Me, Act, keeps, takes, Valid, stepped, Allows, carried_after}
+use Rattle.tile_plan.specs.Plan.{TilePlan, tile_count}
 use Rattle.border_climb.specs.Stands.{PartState}
-use Rattle.merge_board.specs.Fits.{Fits, Opened}
-use Rattle.merge_board.specs.Board.{Words, Slots, Views, IsPart, IsFormed, IsAtHome, IsSpent, HasArrived, IsInHand, IsInOrder, IsBoard, Shows, Keeps, IsEmpty, word_of, door, total, missed_share}
-use Rattle.merge_board.specs.Seats.{drawn, missing, idle, with_merge, split_left, split_right, joined, left_over}
-use Rattle.merge_board.specs.Plays.{Draws, Arrives}
+use Rattle.merge_board.specs.Fits.{Opened}
+use Rattle.merge_board.specs.Board.{IsInOrder, IsBoard, Keeps, missed_share}
+use Rattle.merge_board.specs.Seats.{drawn, missing}
+use Rattle.merge_board.specs.Plays.{Draws}
 use Rattle.merge_board.specs.declared.view.View.{View}
-use Rattle.merge_board.proofs.Doors.{some_plan, door_some, door_inner, door_root, mother_inner, mother_merge, mother_later, sibling_part, sibling_door, sibling_weight, weight_two, weight_some}
-use Rattle.merge_board.proofs.Changes.{IsChange, shown, no_hand, apart_from}
-use Rattle.merge_board.proofs.Calm.{IsCalm, calm_as, calm_views, more_draws, spent_slot}
+use Rattle.merge_board.proofs.Changes.{IsChange, shown, apart_from}
+use Rattle.merge_board.proofs.Calm.{IsCalm, calm_as, calm_views, more_draws}
 use Rattle.merge_board.proofs.Draws.{tile_drawn}
-use Rattle.merge_board.proofs.Sums.{total_set, total_snoc, total_has, total_two, missed_all, missed_none, missed_whole, changed_words, changed_list, within_list}
+use Rattle.merge_board.proofs.Sums.{total_set, missed_all, missed_none, changed_words, changed_list, within_list}
 use Rattle.std.proofs.lemmas.List.{length-set}
 
 -- the state of a board

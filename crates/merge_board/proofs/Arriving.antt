@@ -1,6 +1,6 @@
 -- What the table asks of an arrival.
-use Rattle.std.proofs.Common.{◌≡◌, ◌≢◌, ℕ, zero, suc, ◌+◌, ◌-◌, ◌*◌, ◌^◌, ◌%◌, ◌<◌, ◌≤◌, ◌⊎◌, inl, inr, refl, sym, ◌∙◌, subst, ap, arith, true, false, Bool, List, [], ◌∷◌, ◌++◌, length, max}
-use Rattle.std.proofs.lemmas.Bool.{cases_eq, cases_lt}
+use Rattle.std.proofs.Common.{◌≡◌, ◌≢◌, ℕ, ◌+◌, ◌^◌, ◌%◌, ◌<◌, ◌≤◌, ◌⊎◌, inl, inr, refl, sym, ◌∙◌, subst, ap, arith, List, [], ◌∷◌, ◌++◌, length}
+use Rattle.std.proofs.lemmas.Bool.{cases_eq}
 use Rattle.std.proofs.lemmas.List.{length-set}
 use Rattle.std.proofs.lemmas.Option.{same_Some}
 use Rattle.std.proofs.Math.Nat.{mod-eq_of_lt}
@@ -8,16 +8,16 @@ use Rattle.std.specs.Prelude.{Option, Some, None, slice_set, slice_index}
 use mathlib.Core.Option.{some, none}
 use mathlib.Core.Option as maybe
 use lib.ListN.{get_elem?}
-use Rattle.atomic_table.specs.Table.{State, Me, Act, keeps, takes, gives, chain, Valid, stepped, Allows, carried_after, homes_after}
+use Rattle.atomic_table.specs.Table.{State, Act, takes, gives, chain, Valid, stepped, Allows, carried_after}
 use Rattle.atomic_table.proofs.Lists.{set_else}
-use Rattle.tile_plan.specs.Plan.{TilePlan, IsPlan, tile_count, part_count, root, mother, weight, sibling}
+use Rattle.tile_plan.specs.Plan.{TilePlan, tile_count, part_count, root, mother, weight, sibling}
 use Rattle.border_climb.specs.Stands.{PartState}
-use Rattle.merge_board.specs.Fits.{Fits, Opened}
-use Rattle.merge_board.specs.Board.{Words, Slots, Views, IsPart, IsFormed, IsAtHome, IsSpent, HasArrived, IsInHand, IsInOrder, IsBoard, Shows, Keeps, IsEmpty, word_of, door, total, missed_share}
+use Rattle.merge_board.specs.Fits.{Fits}
+use Rattle.merge_board.specs.Board.{IsPart, IsFormed, IsSpent, IsInOrder, IsBoard, Keeps, word_of, door, missed_share}
 use Rattle.merge_board.specs.Seats.{idle, with_merge}
-use Rattle.merge_board.specs.Plays.{Arrives, ArrivesWith, AreBelow, AreHalves, last_of}
+use Rattle.merge_board.specs.Plays.{Arrives, ArrivesWith, AreBelow, last_of}
 use Rattle.merge_board.specs.declared.view.View.{View}
-use Rattle.merge_board.proofs.Doors.{some_plan, door_some, door_inner, door_root, mother_inner, mother_merge, mother_later, sibling_part, sibling_door, sibling_weight, weight_two, weight_some}
+use Rattle.merge_board.proofs.Doors.{some_plan, door_some, door_inner, door_root, mother_inner, mother_merge, mother_later, sibling_part, sibling_door, sibling_weight, weight_two}
 use Rattle.merge_board.proofs.Changes.{IsChange}
 use Rattle.merge_board.proofs.Calm.{spent_slot}
 use Rattle.merge_board.proofs.First.{first_arrives}

@@ -1,13 +1,11 @@
 -- Steps that change views of seats without a part: missing, splitting and joining. And a slot of a spent part.
-use Rattle.std.proofs.Common.{◌≡◌, ◌≢◌, ℕ, ◌+◌, ◌-◌, ◌*◌, ◌<◌, ◌≤◌, ◌⊎◌, inl, inr, refl, sym, ◌∙◌, subst, ap, arith, true, false}
-use Rattle.std.proofs.lemmas.Bool.{cases_eq, cases_lt}
+use Rattle.std.proofs.Common.{◌≡◌, ◌≢◌, ℕ, ◌+◌, ◌<◌, ◌≤◌, ◌⊎◌, inl, inr, sym, ◌∙◌, subst, ap, arith, true}
 use Rattle.std.specs.Prelude.{Option, Some, None}
 use mathlib.Core.Option.{some, none}
 use mathlib.Core.Option as maybe
-use Rattle.tile_plan.specs.Plan.{TilePlan, IsPlan, tile_count, part_count, root, mother, weight, sibling}
+use Rattle.tile_plan.specs.Plan.{TilePlan, IsPlan, tile_count, root, weight}
 use Rattle.border_climb.specs.Stands.{PartState}
-use Rattle.merge_board.specs.Fits.{Fits, Opened}
-use Rattle.merge_board.specs.Board.{Words, Slots, Views, IsPart, IsFormed, IsAtHome, IsSpent, HasArrived, IsInHand, IsInOrder, Shows, Keeps, IsEmpty, word_of, door}
+use Rattle.merge_board.specs.Board.{Words, Slots, Views, IsPart, IsFormed, IsAtHome, IsSpent, HasArrived, IsInOrder, Shows, word_of, door}
 use Rattle.merge_board.specs.declared.view.View.{View}
 use Rattle.merge_board.proofs.Doors.{door_some, some_plan, weight_two}
 use Rattle.merge_board.proofs.Changes.{IsChange, no_hand}

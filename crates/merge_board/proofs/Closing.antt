@@ -1,20 +1,19 @@
 -- The board at the start, and at the end: where one seat stands for all workers and has missed, the root is at home.
-use Rattle.std.proofs.Common.{◌≡◌, ◌≢◌, ℕ, zero, suc, ◌+◌, ◌-◌, ◌*◌, ◌^◌, ◌%◌, ◌<◌, ◌≤◌, ◌⊎◌, inl, inr, refl, sym, ◌∙◌, subst, ap, arith, true, false, Bool, List, [], ◌∷◌, ◌++◌, length, map, max}
+use Rattle.std.proofs.Common.{◌≡◌, ◌≢◌, ℕ, zero, suc, ◌<◌, ◌≤◌, ◌⊎◌, inl, inr, sym, ◌∙◌, subst, ap, arith, true}
 use Rattle.std.proofs.lemmas.Bool.{cases_eq, cases_lt}
-use Rattle.std.specs.Prelude.{Option, Some, None, slice_set, slice_index}
-use mathlib.Core.Option.{some, none}
+use Rattle.std.specs.Prelude.{Option, Some, slice_index}
 use lib.ListN.{get_elem?}
 use Rattle.atomic_table.specs.Table.{State}
-use Rattle.tile_plan.specs.Plan.{TilePlan, IsPlan, tile_count, part_count, root, mother, weight, left, right}
+use Rattle.tile_plan.specs.Plan.{TilePlan, tile_count, part_count, root, weight, left, right}
 use Rattle.tile_plan.specs.Laws.{HasHalves}
-use Rattle.tile_plan.proofs.Mothers.{has_mother, has_halves}
+use Rattle.tile_plan.proofs.Mothers.{has_halves}
 use Rattle.border_climb.specs.Stands.{PartState}
 use Rattle.merge_board.specs.Fits.{Fits}
-use Rattle.merge_board.specs.Board.{IsPart, IsFormed, IsAtHome, HasArrived, IsInHand, IsInOrder, IsBoard, Shows, Keeps, total, word_of, door}
+use Rattle.merge_board.specs.Board.{IsPart, IsFormed, IsAtHome, HasArrived, IsBoard, Shows, Keeps, word_of, door}
 use Rattle.merge_board.specs.declared.view.View.{View}
 use Rattle.merge_board.proofs.Changes.{one_view, no_hand}
-use Rattle.merge_board.proofs.Doors.{some_plan, weight_some}
-use Rattle.merge_board.proofs.Sums.{total_has, total_two}
+use Rattle.merge_board.proofs.Doors.{some_plan}
+use Rattle.merge_board.proofs.Sums.{total_two}
 
 module _ (p : TilePlan) (workers : ℕ) (s : State (Option PartState) View) (board : IsBoard p workers s) (id : ℕ) (v : View) (shows : Shows (get_elem? s.views) id v) (all : v.share ≡ workers) (missed : v.missed ≡ true) where
   -- no seat has a part

@@ -1,15 +1,13 @@
 -- A draw that gives a tile, one that misses, and what splits and joins of seats change.
-use Rattle.std.proofs.Common.{◌≡◌, ◌≢◌, ℕ, ◌+◌, ◌-◌, ◌*◌, ◌<◌, ◌≤◌, ◌⊎◌, inl, inr, refl, sym, ◌∙◌, subst, ap, arith, true, false}
-use Rattle.std.proofs.lemmas.Bool.{cases_eq, cases_lt}
-use Rattle.std.specs.Prelude.{Option, Some, None}
+use Rattle.std.proofs.Common.{◌≡◌, ◌≢◌, ℕ, ◌+◌, ◌<◌, ◌≤◌, ◌⊎◌, inl, inr, sym, ◌∙◌, subst, ap, arith, true, false}
+use Rattle.std.proofs.lemmas.Bool.{cases_eq}
+use Rattle.std.specs.Prelude.{Some, None}
 use mathlib.Core.Option.{some, none}
-use Rattle.tile_plan.specs.Plan.{TilePlan, IsPlan, tile_count, part_count, root, mother, weight, sibling}
-use Rattle.border_climb.specs.Stands.{PartState}
-use Rattle.merge_board.specs.Fits.{Fits, Opened}
-use Rattle.merge_board.specs.Board.{Words, Slots, Views, IsPart, IsFormed, IsAtHome, IsSpent, HasArrived, IsInHand, IsInOrder, Shows, Keeps, IsEmpty, word_of, door}
+use Rattle.tile_plan.specs.Plan.{TilePlan, IsPlan, tile_count, root}
+use Rattle.merge_board.specs.Board.{Words, Slots, Views, IsPart, IsFormed, IsAtHome, HasArrived, IsInHand, IsInOrder, Shows, word_of, door}
 use Rattle.merge_board.specs.Seats.{drawn}
 use Rattle.merge_board.specs.declared.view.View.{View}
-use Rattle.merge_board.proofs.Doors.{door_some, some_tile}
+use Rattle.merge_board.proofs.Doors.{door_some}
 use Rattle.merge_board.proofs.Changes.{IsChange, shown, still_shown, one_view, no_hand, one_hand}
 
 module _ (p : TilePlan) (workers : ℕ) (w w' : Words) (slots slots' : Slots) (views views' : Views) (plan : IsPlan p) (order : IsInOrder p workers w slots views)

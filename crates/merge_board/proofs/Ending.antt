@@ -1,10 +1,10 @@
 -- What is found where a board is closed by a seat that stands for all workers and has missed.
-use Rattle.std.proofs.Common.{◌≡◌, ℕ, ◌+◌, ◌<◌, ◌≤◌, refl, sym, ◌∙◌, subst, ap, arith, true, List, [], ◌∷◌, length}
+use Rattle.std.proofs.Common.{◌≡◌, ℕ, ◌≤◌, sym, ◌∙◌, subst, ap, arith, true, List}
 use Rattle.std.specs.Prelude.{Option, Some, None}
 use Rattle.std.proofs.lemmas.Option.{none-some, same_Some}
 use mathlib.Core.Option.{some, some-injective}
 use lib.ListN.{get_elem?}
-use Rattle.atomic_table.specs.Table.{Final, Seen, State}
+use Rattle.atomic_table.specs.Table.{Final, Seen}
 use Rattle.tile_plan.specs.Plan.{TilePlan, root}
 use Rattle.border_climb.specs.Stands.{PartState}
 use Rattle.merge_board.specs.Fits.{Fits}

@@ -1,16 +1,16 @@
 -- A part arrives at a word that is 0: the part is at home afterwards, and the seat is idle.
-use Rattle.std.proofs.Common.{◌≡◌, ◌≢◌, ℕ, ◌+◌, ◌-◌, ◌*◌, ◌<◌, ◌≤◌, ◌⊎◌, inl, inr, refl, sym, ◌∙◌, subst, ap, arith, true}
-use Rattle.std.proofs.lemmas.Bool.{cases_eq, cases_lt}
-use Rattle.std.specs.Prelude.{Option, Some, None}
+use Rattle.std.proofs.Common.{◌≡◌, ◌≢◌, ℕ, ◌<◌, ◌≤◌, ◌⊎◌, inl, inr, sym, ◌∙◌, subst, ap, arith}
+use Rattle.std.proofs.lemmas.Bool.{cases_eq}
+use Rattle.std.specs.Prelude.{Some, None}
 use mathlib.Core.Option.{some}
-use Rattle.tile_plan.specs.Plan.{TilePlan, IsPlan, tile_count, part_count, root, mother, weight}
+use Rattle.tile_plan.specs.Plan.{TilePlan, IsPlan, tile_count, root, weight}
 use Rattle.tile_plan.proofs.Mothers.{has_mother}
 use Rattle.border_climb.specs.Stands.{PartState}
-use Rattle.merge_board.specs.Fits.{Fits, Opened}
-use Rattle.merge_board.specs.Board.{Words, Slots, Views, IsPart, IsFormed, IsAtHome, IsSpent, HasArrived, IsInHand, IsInOrder, Shows, Keeps, IsEmpty, word_of, door}
+use Rattle.merge_board.specs.Fits.{Fits}
+use Rattle.merge_board.specs.Board.{Words, Slots, Views, IsPart, IsFormed, IsAtHome, HasArrived, IsInHand, IsInOrder, Shows, Keeps, word_of, door}
 use Rattle.merge_board.specs.Seats.{idle}
 use Rattle.merge_board.specs.declared.view.View.{View}
-use Rattle.merge_board.proofs.Doors.{door_some, some_tile, weight_some, weight_two, door_of_root, one_part, same_door}
+use Rattle.merge_board.proofs.Doors.{door_some, weight_some, weight_two, door_of_root, one_part}
 use Rattle.merge_board.proofs.Changes.{IsChange, shown, still_shown, one_view, no_hand, one_hand}
 
 module _ (p : TilePlan) (workers : ℕ) (w w' : Words) (slots slots' : Slots) (views views' : Views) (plan : IsPlan p) (order : IsInOrder p workers w slots views)

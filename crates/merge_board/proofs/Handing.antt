@@ -1,5 +1,5 @@
 -- How a part is put down, and how the two halves are taken up, over the slots that a seat holds.
-use Rattle.std.proofs.Common.{◌≡◌, ◌≢◌, ℕ, ◌+◌, ◌-◌, ◌*◌, ◌^◌, ◌%◌, ◌<◌, ◌≤◌, refl, sym, ◌∙◌, subst, ap, arith, List, [], ◌∷◌, ◌++◌, true, inl, inr}
+use Rattle.std.proofs.Common.{◌≡◌, ◌≢◌, ℕ, ◌+◌, ◌^◌, ◌%◌, ◌<◌, ◌≤◌, refl, sym, ◌∙◌, subst, ap, arith, List, [], ◌∷◌, ◌++◌, inl, inr}
 use Rattle.std.proofs.lemmas.Bool.{cases_eq}
 use Rattle.std.proofs.lemmas.Option.{same_Some}
 use Rattle.std.specs.Prelude.{Option, Some, None}
@@ -10,13 +10,13 @@ use Rattle.tile_plan.specs.declared.site.Side.TheVariants as sides
 use Rattle.tile_plan.proofs.Mothers.{has_mother}
 use Rattle.border_climb.specs.Stands.{PartState}
 use Rattle.merge_board.specs.Fits.{Fits}
-use Rattle.merge_board.specs.Board.{IsBoard, IsPart, door}
+use Rattle.merge_board.specs.Board.{IsBoard, door}
 use Rattle.merge_board.specs.Seats.{with_merge}
 use Rattle.merge_board.specs.Plays.{Hold, Arrives, ArrivesWith, AreTurns, AreBelow, AreHalves}
 use Rattle.merge_board.specs.Fields.{IsSeat}
 use Rattle.merge_board.specs.declared.view.View.{View}
 use Rattle.merge_board.specs.declared.seat.Seat.TheInside.{Inside}
-use Rattle.merge_board.proofs.Doors.{some_plan, door_some, door_inner, door_root, mother_inner, mother_merge, sibling_part, sibling_weight, weight_some, weight_two}
+use Rattle.merge_board.proofs.Doors.{some_plan, door_inner, door_root, mother_inner, mother_merge, sibling_part, sibling_weight, weight_some, weight_two}
 use Rattle.merge_board.proofs.Arriving.{may_arrive}
 use Rattle.merge_board.proofs.Held.{arrives_alone}
 use Rattle.merge_board.proofs.Places.{left_weight, right_weight, left_sibling, right_sibling}

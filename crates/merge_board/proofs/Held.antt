@@ -1,11 +1,10 @@
 -- Small facts on the slots that a seat holds.
-use Rattle.std.proofs.Common.{◌≡◌, ℕ, ◌+◌, ◌<◌, ◌≤◌, refl, sym, ◌∙◌, subst, ap, arith, List, [], ◌∷◌, ◌++◌}
+use Rattle.std.proofs.Common.{◌≡◌, ℕ, ◌<◌, sym, ◌∙◌, subst, ap, List, [], ◌∷◌, ◌++◌}
 use Rattle.std.specs.Prelude.{Option, Some, None}
 use Rattle.atomic_table.specs.Table.{rest, turned}
 use Rattle.tile_plan.specs.Plan.{TilePlan, tile_count, mother, sibling}
 use Rattle.border_climb.specs.Stands.{PartState}
-use Rattle.merge_board.specs.Fits.{Opened}
-use Rattle.merge_board.specs.Plays.{Hold, Draws, AreTurns, AreBelow, ArrivesWith, Arrives, last_of}
+use Rattle.merge_board.specs.Plays.{Hold, Draws, AreTurns, AreBelow, ArrivesWith, last_of}
 
 -- a list with this head has it before its rest
 pub before_rest : (xs ys : List (ℕ × Option PartState)) (x : ℕ × Option PartState) → xs ≡ x ∷ ys → xs ≡ x ∷ rest xs

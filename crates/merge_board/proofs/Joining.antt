@@ -1,18 +1,15 @@
 -- What the table asks where a seat is split or two are joined, at the start and at the end.
-use Rattle.std.proofs.Common.{◌≡◌, ◌≢◌, ℕ, zero, suc, ◌+◌, ◌-◌, ◌*◌, ◌^◌, ◌%◌, ◌<◌, ◌≤◌, ◌⊎◌, inl, inr, refl, sym, ◌∙◌, subst, ap, arith, true, false, Bool, List, [], ◌∷◌, ◌++◌, length, max}
-use Rattle.std.proofs.lemmas.Bool.{cases_eq, cases_lt}
-use Rattle.std.proofs.lemmas.List.{length-set}
-use Rattle.std.specs.Prelude.{Option, Some, None, slice_set, slice_index}
-use mathlib.Core.Option.{some, none}
+use Rattle.std.proofs.Common.{◌≡◌, ℕ, ◌≤◌, ◌⊎◌, inl, inr, refl, sym, ◌∙◌, subst, arith, true, false, List, [], ◌∷◌, ◌++◌}
+use Rattle.std.specs.Prelude.{Some, None, slice_set, slice_index}
+use mathlib.Core.Option.{some}
 use lib.ListN.{get_elem?}
-use Rattle.atomic_table.specs.Table.{State, Splits, Joins}
+use Rattle.atomic_table.specs.Table.{Splits, Joins}
 use Rattle.atomic_table.proofs.Lists.{at_snoc, at_longer, set_else}
-use Rattle.tile_plan.specs.Plan.{TilePlan, IsPlan, tile_count, part_count, root}
-use Rattle.border_climb.specs.Stands.{PartState}
-use Rattle.merge_board.specs.Board.{IsInOrder, IsBoard, Shows, total, missed_share}
+use Rattle.tile_plan.specs.Plan.{TilePlan}
+use Rattle.merge_board.specs.Board.{IsBoard, Shows, missed_share}
 use Rattle.merge_board.specs.Seats.{split_left, split_right, joined, left_over}
 use Rattle.merge_board.specs.declared.view.View.{View}
-use Rattle.merge_board.proofs.Changes.{IsChange, shown, no_hand, apart_from}
+use Rattle.merge_board.proofs.Changes.{IsChange, shown, apart_from}
 use Rattle.merge_board.proofs.Calm.{IsCalm, calm_as, calm_views}
 use Rattle.merge_board.proofs.Sums.{total_set, total_snoc, missed_none, missed_whole, changed_list, within_list}
 

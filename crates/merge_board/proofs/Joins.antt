@@ -1,12 +1,12 @@
 -- What the conditions of building and joining parts ask, from what fits a plan.
-use Rattle.std.proofs.Common.{◌≡◌, ◌≢◌, ℕ, ◌+◌, ◌-◌, ◌*◌, ◌^◌, ◌<◌, ◌≤◌, ◌⊎◌, inl, inr, refl, sym, ◌∙◌, subst, ap, arith, List, [], ◌∷◌, ◌++◌, length, map}
+use Rattle.std.proofs.Common.{◌≡◌, ◌≢◌, ℕ, ◌+◌, ◌-◌, ◌*◌, ◌<◌, ◌≤◌, ◌⊎◌, inl, inr, refl, sym, ◌∙◌, subst, ap, arith, List, [], ◌∷◌, ◌++◌, length, map}
 use Rattle.hg_base.specs.Edges.{ListedEdge, EdgeList, IsIn, AreApart}
 use Rattle.hg_base.specs.Placed.{placed}
 use Rattle.node_region.specs.Pool.{count, IsCovered, IsNextTo}
 use Rattle.border_climb.specs.Stands.{PartState, Stands}
 use Rattle.border_climb.specs.Parts.{IsLot, CanJoin, listed}
 use Rattle.hg_base.specs.declared.graph.PlacedEdge.{PlacedEdge}
-use Rattle.tile_plan.specs.Plan.{TilePlan, IsPlan, IsPlaceOf, tile_count, part_count, root, mother, left, right, first_place, end_place, first_tile, tiles_of, post, lot_edges, edges_at, room_tiles, room_places, start}
+use Rattle.tile_plan.specs.Plan.{TilePlan, IsPlan, IsPlaceOf, tile_count, part_count, left, right, first_place, end_place, first_tile, tiles_of, lot_edges, edges_at, room_tiles, start}
 use Rattle.tile_plan.specs.Laws.{HasHalves, JoinsHalves, IsSomewhere, IsTile, HasEdges, Crosses}
 use Rattle.tile_plan.proofs.Mothers.{has_halves}
 use Rattle.tile_plan.proofs.Ranges.{is_somewhere, is_tile}

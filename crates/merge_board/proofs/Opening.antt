@@ -1,5 +1,5 @@
 -- The rule holds where a board is set up.
-use Rattle.std.proofs.Common.{◌≡◌, ◌≢◌, ℕ, zero, suc, ◌+◌, ◌-◌, ◌<◌, ◌≤◌, ◌⊎◌, inl, inr, refl, sym, ◌∙◌, subst, ap, arith, true, false, Bool, List, [], ◌∷◌, length, map}
+use Rattle.std.proofs.Common.{◌≡◌, ℕ, zero, suc, ◌+◌, ◌<◌, ◌≤◌, inl, inr, refl, sym, ◌∙◌, ap, arith, List, [], ◌∷◌, map}
 use Rattle.std.specs.Prelude.{Option, Some, None, slice_index, replicate}
 use Rattle.std.proofs.lemmas.List.{length-replicate, length-map}
 use Rattle.std.proofs.lemmas.Bool.{true≢false}
@@ -7,9 +7,9 @@ use mathlib.Core.Option.{some, some-injective, some-ne-none}
 use mathlib.Core.Option as maybe
 use lib.ListN.{get_elem?}
 use Rattle.atomic_table.specs.Table.{opening}
-use Rattle.tile_plan.specs.Plan.{TilePlan, IsPlan, tile_count, part_count, root, weight}
+use Rattle.tile_plan.specs.Plan.{TilePlan, IsPlan, tile_count, root, weight}
 use Rattle.border_climb.specs.Stands.{PartState}
-use Rattle.merge_board.specs.Board.{Shows, IsPart, IsFormed, IsInHand, HasArrived, IsInOrder, IsBoard, door, word_of, total, missed_share}
+use Rattle.merge_board.specs.Board.{Shows, IsPart, IsFormed, HasArrived, IsInOrder, IsBoard, door, word_of}
 use Rattle.merge_board.specs.Opening.{AreOpened}
 use Rattle.merge_board.specs.Seats.{first_view}
 use Rattle.merge_board.specs.declared.view.View.{View}

@@ -1,8 +1,6 @@
 -- What a part's mother and side tell of its word and weight.
-use Rattle.std.proofs.Common.{◌≡◌, ◌≢◌, ℕ, ◌+◌, ◌-◌, ◌*◌, ◌<◌, ◌≤◌, ◌⊎◌, inl, inr, refl, sym, ◌∙◌, subst, ap, arith, true, false, Bool}
-use Rattle.std.proofs.lemmas.Bool.{cases_eq}
+use Rattle.std.proofs.Common.{◌≡◌, ℕ, ◌<◌, ◌≤◌, sym, ◌∙◌, ap, arith}
 use Rattle.tile_plan.specs.Plan.{TilePlan, IsPlan, tile_count, part_count, root, mother, weight, sibling, side_of, left, right}
-use Rattle.tile_plan.specs.declared.site.Side.{Side}
 use Rattle.tile_plan.specs.declared.site.Side.TheVariants as sides
 use Rattle.tile_plan.proofs.Mothers.{has_mother}
 use Rattle.merge_board.specs.Board.{door}

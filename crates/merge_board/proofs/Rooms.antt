@@ -1,15 +1,15 @@
 -- The part of a tile before it is built: the room of the tile's part holds it, and it is opened.
-use Rattle.std.proofs.Common.{◌≡◌, ℕ, ◌+◌, ◌-◌, ◌*◌, ◌<◌, ◌≤◌, refl, sym, ◌∙◌, subst, ap, arith, List, [], length}
-use Rattle.std.specs.Prelude.{Option, None, Result, Ok, Err, IfOk, replicate}
+use Rattle.std.proofs.Common.{◌≡◌, ℕ, ◌+◌, ◌-◌, ◌<◌, ◌≤◌, refl, sym, ◌∙◌, ap, arith, []}
+use Rattle.std.specs.Prelude.{None, Result, Ok, Err, IfOk}
 use Rattle.std.proofs.lemmas.List.{length-replicate}
-use Rattle.tile_plan.specs.Plan.{TilePlan, IsPlan, tile_count, part_count, vertices, first_place, end_place, first_tile, tiles_of, room_tiles, room_places, start}
+use Rattle.tile_plan.specs.Plan.{TilePlan, IsPlan, tile_count, vertices, first_place, end_place, first_tile, tiles_of, room_tiles, room_places, start}
 use Rattle.tile_plan.specs.Laws.{IsSomewhere, IsTile}
 use Rattle.tile_plan.proofs.Ranges.{is_somewhere, is_tile, start-rises, start-within}
-use Rattle.node_region.specs.Pool.{CellPool, count}
+use Rattle.node_region.specs.Pool.{count}
 use Rattle.border_climb.specs.Stands.{PartState, Stands}
 use Rattle.border_climb.specs.Parts.{empty_part}
 use Rattle.hg_base.specs.declared.graph.Room.{Room}
-use Rattle.merge_board.specs.Fits.{Opened, IsOpened, IsShapedFor}
+use Rattle.merge_board.specs.Fits.{Opened}
 use Rattle.merge_board.proofs.Joins.{opens}
 
 module _ (p : TilePlan) (t : ℕ) (plan : IsPlan p) (h : t < tile_count p) where

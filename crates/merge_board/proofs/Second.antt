@@ -1,16 +1,16 @@
 -- A part arrives at a word that is not 0: the merge above it is in the seat's hand afterwards, and both halves are spent.
-use Rattle.std.proofs.Common.{◌≡◌, ◌≢◌, ℕ, ◌+◌, ◌-◌, ◌*◌, ◌<◌, ◌≤◌, ◌⊎◌, inl, inr, refl, sym, ◌∙◌, subst, ap, arith, true}
-use Rattle.std.proofs.lemmas.Bool.{cases_eq, cases_lt}
-use Rattle.std.specs.Prelude.{Option, Some, None}
+use Rattle.std.proofs.Common.{◌≡◌, ◌≢◌, ℕ, ◌+◌, ◌<◌, ◌≤◌, ◌⊎◌, inl, inr, sym, ◌∙◌, subst, ap, arith}
+use Rattle.std.proofs.lemmas.Bool.{cases_eq}
+use Rattle.std.specs.Prelude.{Some}
 use mathlib.Core.Option.{some, none}
-use Rattle.tile_plan.specs.Plan.{TilePlan, IsPlan, tile_count, part_count, root, mother, weight, sibling}
+use Rattle.tile_plan.specs.Plan.{TilePlan, IsPlan, tile_count, root, mother, weight, sibling}
 use Rattle.tile_plan.proofs.Mothers.{has_mother}
 use Rattle.border_climb.specs.Stands.{PartState}
-use Rattle.merge_board.specs.Fits.{Fits, Opened}
-use Rattle.merge_board.specs.Board.{Words, Slots, Views, IsPart, IsFormed, IsAtHome, IsSpent, HasArrived, IsInHand, IsInOrder, Shows, Keeps, IsEmpty, word_of, door}
+use Rattle.merge_board.specs.Fits.{Fits}
+use Rattle.merge_board.specs.Board.{Words, Slots, Views, IsPart, IsFormed, IsAtHome, HasArrived, IsInHand, IsInOrder, Shows, Keeps, IsEmpty, word_of, door}
 use Rattle.merge_board.specs.Seats.{with_merge}
 use Rattle.merge_board.specs.declared.view.View.{View}
-use Rattle.merge_board.proofs.Doors.{door_some, some_tile, weight_some, weight_two, door_of_root, door_root, one_part, one_word, same_door, mother_merge, mother_later, mother_inner, sibling_part, sibling_door, sibling_weight}
+use Rattle.merge_board.proofs.Doors.{door_some, weight_some, weight_two, door_of_root, one_word, same_door, mother_merge, mother_later, mother_inner, sibling_part, sibling_door, sibling_weight}
 use Rattle.merge_board.proofs.Changes.{IsChange, shown, still_shown, one_view, no_hand, one_hand}
 
 module _ (p : TilePlan) (workers : ℕ) (w : Words) (slots : Slots) (views : Views) (plan : IsPlan p) (order : IsInOrder p workers w slots views)

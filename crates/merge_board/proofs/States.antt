@@ -1,13 +1,13 @@
 -- Each part is in one of its states.
-use Rattle.std.proofs.Common.{◌≡◌, ◌≢◌, ℕ, ◌+◌, ◌-◌, ◌<◌, ◌≤◌, ◌⊎◌, inl, inr, refl, sym, ◌∙◌, subst, ap, arith}
+use Rattle.std.proofs.Common.{◌≡◌, ◌≢◌, ℕ, ◌<◌, ◌≤◌, ◌⊎◌, inl, inr, arith}
 use Rattle.std.proofs.lemmas.Bool.{cases_eq, cases_lt}
-use Rattle.std.specs.Prelude.{Option, Some, None, slice_index}
+use Rattle.std.specs.Prelude.{Option, Some, slice_index}
 use lib.ListN.{get_elem?}
 use mathlib.Core.Option.{some}
 use Rattle.atomic_table.specs.Table.{State}
 use Rattle.tile_plan.specs.Plan.{TilePlan, tile_count, weight}
 use Rattle.border_climb.specs.Stands.{PartState}
-use Rattle.merge_board.specs.Board.{IsBoard, IsPart, IsFormed, IsUnborn, IsInHand, IsAtHome, IsSpent, HasArrived, IsStatus, IsHeldOnce, Unborn, InHand, AtHome, Spent, door, word_of}
+use Rattle.merge_board.specs.Board.{IsBoard, IsPart, IsFormed, HasArrived, IsStatus, Unborn, InHand, AtHome, Spent, door, word_of}
 use Rattle.merge_board.specs.declared.view.View.{View}
 
 pub part_status : (p : TilePlan) (workers i : ℕ) (s : State (Option PartState) View) → IsBoard p workers s → IsPart p i → IsStatus p s i

@@ -1,5 +1,5 @@
 -- The rule over a board's key, and what the fields of seats and boards hold.
-use Rattle.std.specs.Prelude.{◌≡◌, ℕ, ◌+◌, ◌≤◌, ◌<◌, Option, Some, None, true}
+use Rattle.std.specs.Prelude.{◌≡◌, ℕ, ◌+◌, ◌≤◌, ◌<◌, Option, Some}
 use Rattle.atomic_table.specs.Table.{State}
 use Rattle.border_climb.specs.Stands.{PartState}
 use Rattle.merge_board.specs.Board.{IsBoard}

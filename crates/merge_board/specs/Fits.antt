@@ -1,6 +1,5 @@
 -- When a part is the one of a plan: before its lot was built, and with all edges at and below it.
 use Rattle.std.specs.Prelude.{◌≡◌, ℕ, ◌-◌, []}
-use Rattle.hg_base.specs.Edges.{EdgeList}
 use Rattle.node_region.specs.Pool.{count}
 use Rattle.border_climb.specs.Stands.{PartState, Stands}
 use Rattle.tile_plan.specs.Plan.{TilePlan, first_place, end_place, tiles_of, first_tile, room_places, room_tiles, post, edges_at}

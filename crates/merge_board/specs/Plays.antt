@@ -1,5 +1,5 @@
 -- What one step on a word tells its seat: the view and the slots before, the number found, and both after.
-use Rattle.std.specs.Prelude.{◌≡◌, ◌≢◌, ℕ, ◌+◌, ◌-◌, ◌<◌, ◌≤◌, ◌⊎◌, List, [], ◌∷◌, ◌++◌, Option, Some, None, true, false}
+use Rattle.std.specs.Prelude.{◌≡◌, ◌≢◌, ℕ, ◌+◌, ◌<◌, ◌≤◌, List, [], ◌∷◌, Option, Some, None}
 use Rattle.atomic_table.specs.Table.{Me}
 use Rattle.border_climb.specs.Stands.{PartState}
 use Rattle.tile_plan.specs.Plan.{TilePlan, tile_count, part_count, root, mother, weight, sibling}

@@ -1,6 +1,6 @@
 -- Seats: what contracts see of one, and how each step changes its view.
-use Rattle.std.specs.Prelude.{◌≡◌, ◌≢◌, ℕ, ◌+◌, ◌-◌, ◌<◌, ◌≤◌, List, [], ◌∷◌, length, All, max, Option, Some, None, true, false}
-use Rattle.tile_plan.specs.Plan.{TilePlan, tile_count}
+use Rattle.std.specs.Prelude.{◌≡◌, ℕ, ◌+◌, ◌-◌, List, [], length, All, max, Some, None, true, false}
+use Rattle.tile_plan.specs.Plan.{TilePlan}
 use Rattle.atomic_table.specs.Seated.{TableId}
 use Rattle.merge_board.specs.declared.view.View.{View}
 

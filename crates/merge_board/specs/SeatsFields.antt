@@ -1,5 +1,5 @@
 -- What the field of the seats that are in holds.
-use Rattle.std.specs.Prelude.{ℕ, ◌≤◌, List, length, vec_capacity}
+use Rattle.std.specs.Prelude.{◌≤◌, List, length, vec_capacity}
 use Rattle.merge_board.specs.Seats.{SeatState}
 use Rattle.merge_board.specs.declared.seats.Seats.TheInside.{Inside}
 

@@ -1,6 +1,6 @@
-use Rattle.std.proofs.Common.{rules, ◌≡◌, ◌≢◌, ℕ, ◌+◌, ◌-◌, ◌*◌, ◌^◌, ◌%◌, ◌<◌, ◌≤◌, [], ◌∷◌, ◌++◌, List, None, Some, false, true, ap, sym, subst, ◌∙◌, refl, arith}
+use Rattle.std.proofs.Common.{rules, ◌≡◌, ℕ, ◌<◌, ◌≤◌, sym, subst, arith}
 use Rattle.std.proofs.lemmas.Grind.{common_steps}
-use Rattle.tile_plan.specs.Plan.{TilePlan, IsPlan, tile_count, part_count, root, mother, weight, sibling, side_of}
+use Rattle.tile_plan.specs.Plan.{tile_count, part_count, mother}
 use Rattle.merge_board.proofs.Doors.{mother_merge, mother_inner}
 use Rattle.merge_board.proofs.place.merge_above.Goals as goal
 

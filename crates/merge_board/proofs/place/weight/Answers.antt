@@ -1,6 +1,6 @@
-use Rattle.std.proofs.Common.{rules, ◌≡◌, ◌≢◌, ℕ, ◌+◌, ◌-◌, ◌*◌, ◌^◌, ◌%◌, ◌<◌, ◌≤◌, [], ◌∷◌, ◌++◌, List, None, Some, false, true, ap, sym, subst, ◌∙◌, refl, arith}
+use Rattle.std.proofs.Common.{rules, ◌≡◌, arith}
 use Rattle.std.proofs.lemmas.Grind.{common_steps}
-use Rattle.tile_plan.specs.Plan.{TilePlan, IsPlan, tile_count, part_count, root, mother, weight, sibling, side_of}
+use Rattle.tile_plan.specs.Plan.{root, weight}
 use Rattle.merge_board.proofs.Doors.{weight_some, weight_two}
 use Rattle.merge_board.proofs.Places.{root_weight, right_weight}
 use Rattle.merge_board.proofs.place.weight.Goals as goal

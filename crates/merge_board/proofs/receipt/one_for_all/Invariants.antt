@@ -1,4 +1,4 @@
-use Rattle.std.proofs.Common.{◌≡◌, ℕ, ◌+◌, ◌≤◌, length, All}
+use Rattle.std.proofs.Common.{◌+◌, ◌≤◌, length, All}
 use Rattle.merge_board.specs.Seats.{IsSeatOf, IsDone}
 use Rattle.merge_board.proofs.receipt.one_for_all.Given as goal
 

@@ -1,9 +1,7 @@
-use Rattle.std.proofs.Common.{rules, ◌≡◌, ℕ, ◌+◌, ◌<◌, ◌≤◌, ◌-◌, ◌*◌, true, None, Some, List, arith, ap, sym, subst, ◌∙◌}
-use Rattle.std.specs.Prelude.{Option}
+use Rattle.std.proofs.Common.{rules, ◌≡◌, ℕ, ◌≤◌, true, arith, ap, sym, subst, ◌∙◌}
 use mathlib.Core.Option.{some}
 use lib.ListN.{get_elem?}
-use Rattle.tile_plan.specs.Plan.{TilePlan, root, part_count, tile_count}
-use Rattle.border_climb.specs.Stands.{PartState}
+use Rattle.tile_plan.specs.Plan.{TilePlan, root}
 use Rattle.merge_board.specs.Fits.{Fits}
 use Rattle.merge_board.proofs.Doors.{some_plan}
 use Rattle.merge_board.proofs.Ending.{is_root, root_fits}

@@ -1,9 +1,8 @@
-use Rattle.std.proofs.Common.{rules, ◌≡◌, ℕ, ◌+◌, ◌-◌, ◌*◌, ◌<◌, ◌≤◌, Some, None, false, List, map, ap, sym, subst, ◌∙◌, arith}
+use Rattle.std.proofs.Common.{rules, ◌≡◌, ℕ, ◌-◌, ◌<◌, ◌≤◌, Some, List, map, ap, sym, subst, ◌∙◌, arith}
 use Rattle.hg_base.specs.Placed.{placed}
 use Rattle.hg_base.specs.declared.graph.PlacedEdge.{PlacedEdge}
 use Rattle.border_climb.specs.Parts.{CanJoin}
-use Rattle.tile_plan.specs.Plan.{TilePlan, IsPlan, tile_count, part_count, root, mother, left, right, edges_at, lot_edges}
-use Rattle.merge_board.specs.Seats.{with_merge}
+use Rattle.tile_plan.specs.Plan.{TilePlan, tile_count, part_count, root, mother, left, right, edges_at, lot_edges}
 use Rattle.merge_board.specs.declared.view.View.{View}
 use Rattle.merge_board.proofs.Doors.{mother_merge, mother_inner, mother_later}
 use Rattle.merge_board.specs.Fits.{Fits}

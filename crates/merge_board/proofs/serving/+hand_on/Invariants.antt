@@ -1,4 +1,4 @@
-use Rattle.std.proofs.Common.{ℕ, ◌-◌}
+use Rattle.std.proofs.Common.{◌-◌}
 use Rattle.tile_plan.specs.Plan.{part_count}
 use Rattle.merge_board.proofs.serving.+hand_on.Given as goal
 

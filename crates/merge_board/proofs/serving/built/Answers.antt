@@ -1,5 +1,4 @@
-use Rattle.std.proofs.Common.{rules, ◌≡◌, ℕ, ◌+◌, ◌-◌, ◌*◌, ◌<◌, ◌≤◌, Some, None, false, List, [], ◌∷◌, map, ap, sym, subst, ◌∙◌, arith}
-use Rattle.hg_base.specs.Placed.{placed}
+use Rattle.std.proofs.Common.{List, sym, subst}
 use Rattle.hg_base.specs.declared.graph.PlacedEdge.{PlacedEdge}
 use Rattle.border_climb.specs.Parts.{IsLot}
 use Rattle.tile_plan.specs.Plan.{lot_edges}

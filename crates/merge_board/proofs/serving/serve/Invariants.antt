@@ -1,4 +1,4 @@
-use Rattle.std.proofs.Common.{◌≡◌, ℕ, ◌-◌}
+use Rattle.std.proofs.Common.{◌≡◌, ◌-◌}
 use Rattle.tile_plan.specs.Plan.{tile_count}
 use Rattle.merge_board.specs.Seats.{IsSeatOf, IsReady}
 use Rattle.merge_board.proofs.serving.serve.Given as goal

@@ -1,6 +1,6 @@
-use Rattle.std.proofs.Common.{rules, ◌≡◌, ℕ, ◌+◌, ◌-◌, ◌*◌, ◌<◌, ◌≤◌, arith, ap, sym}
+use Rattle.std.proofs.Common.{◌≡◌, ℕ, ◌-◌, ◌≤◌, arith, ap}
 use Rattle.hg_base.specs.declared.graph.Room.{Room}
-use Rattle.tile_plan.specs.Plan.{TilePlan, tile_count, vertices, first_place, end_place, room_places, room_tiles}
+use Rattle.tile_plan.specs.Plan.{tile_count, vertices, first_place, end_place, room_places, room_tiles}
 use Rattle.merge_board.proofs.Rooms.{some_place, some_room, few_places, few_tiles, within, opened_answer}
 use Rattle.merge_board.proofs.slots.opened_tile.Goals as goal
 

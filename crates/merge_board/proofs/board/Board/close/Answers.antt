@@ -1,9 +1,7 @@
-use Rattle.std.proofs.Common.{rules, ◌≡◌, ℕ, length, ap, sym, subst, ◌∙◌}
-use Rattle.tile_plan.specs.Plan.{TilePlan, IsPlan, root, post, edges_at, tile_count}
+use Rattle.std.proofs.Common.{rules, ◌≡◌, length, ap, subst, ◌∙◌}
+use Rattle.tile_plan.specs.Plan.{TilePlan, IsPlan, root, tile_count}
 use Rattle.tile_plan.proofs.RootEdges.{root-count}
-use Rattle.border_climb.specs.Stands.{Stands}
 use Rattle.merge_board.proofs.Joins.{fitting}
-use Rattle.merge_board.specs.Seats.{ReceiptState}
 use Rattle.merge_board.proofs.board.Board.close.Goals as goal
 
 pub returns-clause-stands : goal.returns-clause-stands

@@ -1,4 +1,4 @@
-use Rattle.std.proofs.Common.{rules, ◌≡◌, ◌≢◌, ℕ, ◌+◌, ◌-◌, ◌*◌, ◌^◌, ◌%◌, ◌<◌, ◌≤◌, None, Some, false, ap, sym, ◌∙◌, refl, [], arith}
+use Rattle.std.proofs.Common.{rules, ◌≡◌, ◌<◌, None, false, ap, sym, ◌∙◌, [], arith}
 use Rattle.tile_plan.specs.Plan.{TilePlan, tile_count}
 use Rattle.merge_board.proofs.Allowed.{may_draw}
 use Rattle.merge_board.proofs.Held.{slot_drawn, idle_turns}

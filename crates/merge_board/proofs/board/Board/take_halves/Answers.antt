@@ -1,6 +1,5 @@
-use Rattle.std.proofs.Common.{rules, ◌≡◌, ◌≢◌, ℕ, ◌+◌, ◌-◌, ◌*◌, ◌^◌, ◌%◌, ◌<◌, ◌≤◌, [], ◌∷◌, ◌++◌, List, None, Some, false, true, ap, sym, subst, ◌∙◌, refl, arith}
-use Rattle.std.proofs.lemmas.Grind.{common_steps}
-use Rattle.tile_plan.specs.Plan.{TilePlan, IsPlan, tile_count, part_count, root, mother, weight, sibling, side_of}
+use Rattle.std.proofs.Common.{rules, ◌≡◌, [], ◌∷◌, None, Some, ap, sym, subst, ◌∙◌}
+use Rattle.tile_plan.specs.Plan.{TilePlan, IsPlan, mother, weight, sibling, side_of}
 use Rattle.atomic_table.specs.Table.{turned, rest}
 use Rattle.tile_plan.specs.declared.site.Side.TheVariants as sides
 use Rattle.merge_board.specs.Fits.{Fits}

@@ -189,9 +189,64 @@ fn faults_of_the_input(rt: HostRuntime) -> Result<(), Fail> {
     for (input, line) in rows {
         runs_on(&rt, rt.alloc(), &["tree"], input, (3, "", line))?;
     }
-    let drawn = ["cut", "--level", "1", "--form", "pgm"];
-    let line = "higra: input 11 NotAPicture at 0 value 0\n";
-    runs_on(&rt, rt.alloc(), &drawn, "graph 1 0\n", (3, "", line))
+    Ok(())
+}
+
+// Words, and an input of which their report can't be made: the first cause is told.
+#[test]
+fn reports_that_are_refused(rt: HostRuntime) -> Result<(), Fail> {
+    let rows: [(&[&str], &str, &str); 5] = [
+        (
+            &["cut", "--level", "1", "--form", "pgm"],
+            "graph 1 0\n",
+            "higra: input 11 NotAPicture at 0 value 0\n",
+        ),
+        (
+            &["cut", "--form", "pgm", "--tile", "1"],
+            "graph 65537 0\n",
+            "higra: input 11 NotAPicture at 0 value 0\n",
+        ),
+        (
+            &["tree", "--tile", "1"],
+            "graph 65537 0\n",
+            "higra: input 12 TooManyTiles at 0 value 65537\n",
+        ),
+        (
+            &["tree", "--make", "512", "--tile", "1"],
+            "",
+            "higra: input 12 TooManyTiles at 0 value 262144\n",
+        ),
+        (
+            &["cut", "--make", "512", "--tile", "1", "--form", "pgm"],
+            "",
+            "higra: input 12 TooManyTiles at 0 value 262144\n",
+        ),
+    ];
+    for (words, input, line) in rows {
+        runs_on(&rt, rt.alloc(), words, input, (3, "", line))?;
+    }
+    Ok(())
+}
+
+#[test]
+fn as_many_tiles_as_there_may_be(rt: HostRuntime) -> Result<(), Fail> {
+    let words = words_of(rt.alloc(), &["tree", "--tile", "1"])?;
+    let mut source = source_of(rt.alloc(), "graph 65536 0\n", 0)?;
+    let mut out = sink_of(rt.alloc(), 1_000_000, 0)?;
+    let mut err = sink_of(rt.alloc(), 100, 0)?;
+    let status = run(
+        &rt,
+        rt.alloc(),
+        &words,
+        &mut source,
+        &mut out,
+        &mut err,
+        &OpenGate,
+    );
+    assert_eq!(rt; status.code(), 0);
+    assert!(rt; out.taken().starts_with(b"tree 65536 65536\n0 0 0\n1 1 0\n"));
+    assert_eq!(rt; err.taken(), b"".as_slice());
+    Ok(())
 }
 
 // Runs words that give no request, and sees that the source is untouched.

@@ -1,23 +1,20 @@
 -- The list of a graph's edges in order of rank, and the tree that it gives.
-use Rattle.std.proofs.Common.{◌≡◌, ◌≢◌, ℕ, ◌<◌, ◌≤◌, List, [], ◌∷◌, length, map, get_or, refl, sym, ap, ◌∙◌, subst, arith, inl, inr}
-use Rattle.std.specs.Prelude.{All, Option, Some, None, slice_get, Result, Ok, Err, IfOk, Vec}
+use Rattle.std.proofs.Common.{◌≡◌, ℕ, ◌<◌, ◌≤◌, List, [], length, get_or, refl, sym, ap, ◌∙◌, subst, arith}
+use Rattle.std.specs.Prelude.{Option, Some, None, slice_get, Result, Ok, Err, IfOk, Vec}
 use Rattle.std.specs.declared.alloc.Global.{Global}
-use Rattle.std.specs.List.{range_with_len}
 use Rattle.std.proofs.lemmas.List.{get_or-map, length-map}
 use Rattle.std.proofs.lemmas.List.FromFn.{fill_by_all, length-map-range_with_len, get_or-map-range_with_len}
 use Rattle.std.specs.List.Sorted.{IsNonDecreasingBy}
-use Rattle.hg_base.specs.Edges.{EdgeList, AreWithin, Joined}
+use Rattle.hg_base.specs.Edges.{EdgeList, AreWithin}
 use Rattle.hg_base.specs.Graph.{WeightedGraph, first_end, second_end}
 use Rattle.hg_base.specs.Labels.{labelling}
 use Rattle.hg_base.specs.Levels.{AltitudesRise, shares}
 use Rattle.label_writer.specs.Report.{labels_report}
 use Rattle.hg_base.specs.Rank.{listed, number_at, rank, ranked}
-use Rattle.hg_base.specs.Saliency.{at_most}
 use Rattle.hg_base.specs.Saliencies.{saliency}
 use Rattle.hg_base.specs.Zones.{zones_of}
-use Rattle.hg_base.specs.Tree.{ParentTree, IsAbove, graph_tree, tree_of}
+use Rattle.hg_base.specs.Tree.{ParentTree, graph_tree, tree_of}
 use Rattle.hg_base.proofs.FrontOnce.{front-tree}
-use Rattle.hg_base.proofs.LawForms.{Joined-back}
 use Rattle.hg_base.proofs.Levels.{level-tree}
 use Rattle.hg_base.proofs.Nodes.{slice_get-mapped, slice_get-values}
 use Rattle.hg_base.proofs.Ranked.{AreApart-ranked, AreByWeight-ranked, IsIn-ranked}
@@ -25,7 +22,6 @@ use Rattle.hg_base.proofs.Ranks.{weight-rises}
 use Rattle.hg_base.proofs.Saliencies.{saliency-is}
 use Rattle.partition_tree.specs.declared.list.Ranked.{Ranked}
 use Rattle.partition_tree.specs.Forest.{IsForest}
-use Rattle.partition_tree.specs.Paths.{ShareRoot}
 use Rattle.partition_tree.specs.Ranked.{IsRankedList, edge_at, edges_of}
 use Rattle.partition_tree.specs.Report.{tree_report}
 use Rattle.partition_tree.proofs.ListLemmas.{edges-within}

@@ -1,12 +1,12 @@
 -- Tiles that are too many, and faults that come before others.
-use Rattle.std.proofs.Common.{◌≡◌, ℕ, ◌<◌, ◌≤◌, Option, Some, None, Result, Ok, Err, refl, sym, ap, ◌∙◌, subst}
+use Rattle.std.proofs.Common.{◌≡◌, ℕ, ◌<◌, ◌≤◌, Option, Some, None, Ok, Err, refl, sym, ap, ◌∙◌, subst}
 use Rattle.std.proofs.lemmas.Bool.{lt-ltb, le-ltb}
 use Rattle.edge_order.specs.Order.{order_of}
 use Rattle.hg_base.specs.Graph.{WeightedGraph}
 use Rattle.hg_base.specs.declared.fault.InputFault.{InputFault}
 use Rattle.hg_base.specs.declared.fault.FaultKind.TheVariants.{TooManyTiles}
 use Rattle.pgm_reader.specs.Raster.{Raster}
-use Rattle.tile_plan.specs.Plan.{IsAnswer, TilePlan, squares, tile_count}
+use Rattle.tile_plan.specs.Plan.{IsAnswer, TilePlan, squares}
 use Rattle.tile_plan.specs.declared.fault.PlanFault.{PlanFault}
 use Rattle.tile_plan.specs.declared.fault.PlanFault.TheVariants as plans
 use Rattle.higra_cli.specs.Inputs.{graph_of}

@@ -1,9 +1,8 @@
 -- What the ends of a run come to.
-use Rattle.std.proofs.Common.{◌≡◌, ◌≢◌, ◌⊎◌, inl, inr, ℕ, ◌<◌, ◌≤◌, List, length, take_all, Option, Some, None, Result, Ok, Err, OnOk, OnErr, refl, sym, ap, ◌∙◌, subst, arith}
+use Rattle.std.proofs.Common.{◌≡◌, ◌≢◌, inl, inr, ℕ, ◌≤◌, List, length, take_all, Option, Some, None, Result, Ok, Err, OnOk, OnErr, refl, sym, ap, ◌∙◌, subst, arith}
 use Rattle.std.specs.Io.KnownBytes.{Appends}
 use Rattle.hg_base.specs.Outside.{AppendsPrefix, Rose}
 use Rattle.hg_base.specs.declared.fault.InputFault.{InputFault}
-use Rattle.pgm_reader.specs.Generator.{made}
 use Rattle.higra_cli.proofs.ReadingLemmas.{AreRead-all}
 use Rattle.higra_cli.specs.Command.{requested}
 use Rattle.higra_cli.specs.Inputs.{graph_of, input_for}
@@ -11,7 +10,6 @@ use Rattle.higra_cli.specs.Reading.{Told}
 use Rattle.higra_cli.specs.Reports.{refusal, report_of}
 use Rattle.higra_cli.specs.Running.{AreBytesOf, Ends, EndsWork, EndsWriting, GotInput, HasStatus, IsAnswerTo, IsFor, IsHierarchy, Reports, StoodStill, StopsGetting, Writes, answer_of, status_by, status_for}
 use Rattle.higra_cli.specs.declared.input.Input.{Input}
-use Rattle.higra_cli.specs.declared.input.Input.TheVariants.{Picture}
 use Rattle.higra_cli.specs.declared.request.Made.{Made}
 use Rattle.higra_cli.specs.declared.request.Request.{Request}
 use Rattle.higra_cli.specs.declared.ending.Status.{Status}

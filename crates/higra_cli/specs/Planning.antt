@@ -1,5 +1,5 @@
 -- What planning the tiles of an input answers.
-use Rattle.std.specs.Prelude.{◌≡◌, ℕ, Option, Some, None, Result, Ok, Err}
+use Rattle.std.specs.Prelude.{◌≡◌, ℕ, Some, None, Result, Ok, Err}
 use Rattle.edge_order.specs.Order.{order_of}
 use Rattle.hg_base.specs.declared.fault.FaultKind.TheVariants.{TooManyTiles}
 use Rattle.tile_plan.specs.Plan.{tile_count}

@@ -1,4 +1,4 @@
-use Rattle.std.proofs.Common.{◌≡◌, ℕ, ◌+◌, List, length, refl, arith, rules}
+use Rattle.std.proofs.Common.{◌≡◌, ◌+◌, refl, arith, rules}
 use Rattle.higra_cli.proofs.ReadingLemmas.{one_more, fed_more, fed_most}
 use Rattle.higra_cli.specs.Feeding.{GaveOneMore, taken}
 use Rattle.higra_cli.specs.Reading.{told}

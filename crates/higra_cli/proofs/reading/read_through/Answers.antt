@@ -1,4 +1,4 @@
-use Rattle.std.proofs.Common.{◌≡◌, ◌≤◌, ◌<◌, ℕ, List, length, take, arith}
+use Rattle.std.proofs.Common.{take, arith}
 use Rattle.std.proofs.lemmas.List.{length-take-le}
 use Rattle.higra_cli.proofs.ReadingLemmas.{EndsReading-first, EndsReading-decoded, StopsReading-fed, most_from_fed}
 use Rattle.higra_cli.specs.Reading.{told}

@@ -1,6 +1,4 @@
-use Rattle.std.proofs.Common.{◌∙◌, subst, sym, List, rules}
-use Rattle.partition_tree.specs.declared.list.Ranked.{Ranked}
-use Rattle.partition_tree.specs.Ranked.{IsRankedList}
+use Rattle.std.proofs.Common.{rules}
 use Rattle.higra_cli.proofs.OrderedLemmas.{tree_of_edges}
 use Rattle.higra_cli.proofs.writing.tree_of.Goals as goal
 

@@ -6,9 +6,18 @@
 
 mod edge_list;
 mod hierarchy;
+mod levels;
+mod picture;
 mod report;
+mod tree;
+mod zones;
 
-pub use report::tree_report;
+pub use picture::made_picture;
+pub use report::{PlainReport, report_of};
 
+#[cfg(test)]
+mod outside_tests;
+#[cfg(test)]
+mod running;
 #[cfg(test)]
 mod tests;

@@ -1,72 +1,74 @@
-ghost use Rattle.std.specs.Prelude.{◌≤◌};
-
-use crate::edge_list::read_graph;
-use crate::hierarchy::{PlainRanked, chain, joining_edges, ranked_edges};
+use crate::edge_list::{PlainGraph, read_graph};
+use crate::levels::{heads, regions_up_to, saliencies};
+use crate::tree::{PlainTree, tree_of};
+use crate::zones::zones_of;
 use std::alloc::{AllocError, Global};
 
-/// The node that the joining edge of this rank makes: n and the number of joining edges of lower rank.
-fn made_by(n: u64, joining: &[PlainRanked], rank: usize) -> u64
-    requires { n ≤ 1048576 }
-{
-    n + joining.iter().filter(|e| e.rank < rank).count() as u64
+/// A report about a graph.
+#[derive(Clone, Copy)]
+pub enum PlainReport {
+    /// The binary partition tree.
+    Tree,
+    /// The quasi-flat zones.
+    Zones,
+    /// The saliency of each edge.
+    Saliency,
+    /// The regions of the tree at a level.
+    Cut(u64),
 }
 
-/// Adds the line of each leaf. The first edge of its chain makes its parent; without one it is a root.
-fn add_leaves(
-    alloc: Global,
-    report: &mut String,
-    n: u64,
-    edges: &[PlainRanked],
-    joining: &[PlainRanked],
-) -> Result<(), AllocError>
-    requires { n ≤ 1048576 }
-{
-    for x in 0..n {
-        let chain = chain(alloc, n, edges, x)?;
-        let parent = match chain.first() {
-            Some(e) => made_by(n, joining, e.rank),
-            None => x,
-        };
-        writeln!(report, "{x} {parent} 0")?;
+/// The text of a tree.
+fn tree_text(alloc: Global, tree: &PlainTree) -> Result<String, AllocError> {
+    let nodes = tree.nodes.len();
+    let leaves = tree.leaves;
+    let mut text = format!(in alloc; "tree {nodes} {leaves}\n")?;
+    for (number, node) in tree.nodes.iter().enumerate() {
+        let parent = node.parent;
+        let altitude = node.altitude;
+        writeln!(text, "{number} {parent} {altitude}")?;
     }
-    Ok(())
+    Ok(text)
 }
 
-/// Adds the line of each inner node, in the order of the edges that make them. Its parent is made by the edge
-/// after its own in the chain of an end of its edge; without one it is a root.
-fn add_inner_nodes(
-    alloc: Global,
-    report: &mut String,
-    n: u64,
-    edges: &[PlainRanked],
-    joining: &[PlainRanked],
-) -> Result<(), AllocError>
-    requires { n ≤ 1048576 }
-{
-    for e in joining {
-        let chain = chain(alloc, n, edges, e.edge.u)?;
-        let node = made_by(n, joining, e.rank);
-        let parent = match chain.iter().find(|later| e.rank < later.rank) {
-            Some(later) => made_by(n, joining, later.rank),
-            None => node,
-        };
-        let altitude = e.edge.weight;
-        writeln!(report, "{node} {parent} {altitude}")?;
+/// The text of the saliencies.
+fn saliency_text(alloc: Global, graph: &PlainGraph) -> Result<String, AllocError> {
+    let values = saliencies(alloc, graph)?;
+    let m = values.len();
+    let mut text = format!(in alloc; "saliency {m}\n")?;
+    for (number, value) in values.iter().enumerate() {
+        writeln!(text, "{number} {value}")?;
     }
-    Ok(())
+    Ok(text)
 }
 
-/// The report `tree` of a text that is a well-formed edge list; `None` of any other text.
-pub fn tree_report(alloc: Global, text: &str) -> Result<Option<String>, AllocError> {
+/// The text of the regions of a tree at a level. A region's label is 1 and the number of regions with a lesser least
+/// vertex, so it counts the region itself with those.
+fn cut_text(alloc: Global, tree: &PlainTree, level: u64) -> Result<String, AllocError> {
+    let heads = heads(alloc, tree, level)?;
+    let n = heads.len();
+    let regions = regions_up_to(&heads, n);
+    let mut text = format!(in alloc; "labels {n} {regions}\n")?;
+    for (vertex, head) in heads.iter().enumerate() {
+        let label = regions_up_to(&heads, *head);
+        writeln!(text, "{vertex} {label}")?;
+    }
+    Ok(text)
+}
+
+/// The report about a text that is a well-formed edge list; `None` of any other text.
+pub fn report_of(
+    alloc: Global,
+    text: &str,
+    report: PlainReport,
+) -> Result<Option<String>, AllocError> {
     let Some(graph) = read_graph(alloc, text)? else {
         return Ok(None);
     };
-    let n = graph.n;
-    let edges = ranked_edges(alloc, &graph)?;
-    let joining = joining_edges(alloc, n, &edges)?;
-    let nodes = n + joining.len() as u64;
-    let mut report = format!(in alloc; "tree {nodes} {n}\n")?;
-    add_leaves(alloc, &mut report, n, &edges, &joining)?;
-    add_inner_nodes(alloc, &mut report, n, &edges, &joining)?;
-    Ok(Some(report))
+    let tree = tree_of(alloc, &graph)?;
+    Ok(Some(match report {
+        PlainReport::Tree => tree_text(alloc, &tree)?,
+        PlainReport::Zones => tree_text(alloc, &zones_of(alloc, &tree)?)?,
+        PlainReport::Saliency => saliency_text(alloc, &graph)?,
+        PlainReport::Cut(level) => cut_text(alloc, &tree, level)?,
+    }))
 }

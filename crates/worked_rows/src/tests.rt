@@ -1,45 +1,111 @@
-use crate::tree_report;
-use hg_base::{MemSink, OpenGate, QuietSource, TallySink};
-use higra_cli::{Words, run};
+use crate::running::{Ran, run_well};
+use crate::{PlainReport, made_picture, report_of};
 use std::alloc::{AllocError, Global};
+use std::process::Abort;
 use std::test::Fail;
 use std::thread::Threads;
 
-/// The inputs whose trees were worked out by hand, and the reports.
-const WORKED: [(&str, &str); 8] = [
+const TRIANGLE: &str = "graph 3 3\n0 1 1\n1 2 1\n0 2 1\n";
+
+/// The reports and inputs that were worked out by hand, and what is written.
+const WORKED: [(&[&str], PlainReport, &str, &str); 15] = [
     (
+        &["tree"],
+        PlainReport::Tree,
         "graph 3 2\n0 1 5\n1 2 3\n",
         "tree 5 3\n0 4 0\n1 3 0\n2 3 0\n3 4 3\n4 4 5\n",
     ),
-    ("graph 1 0\n", "tree 1 1\n0 0 0\n"),
     (
-        "graph 3 3\n0 1 1\n1 2 1\n0 2 1\n",
+        &["tree"],
+        PlainReport::Tree,
+        "graph 1 0\n",
+        "tree 1 1\n0 0 0\n",
+    ),
+    (
+        &["zones"],
+        PlainReport::Zones,
+        "graph 1 0\n",
+        "tree 1 1\n0 0 0\n",
+    ),
+    (
+        &["tree"],
+        PlainReport::Tree,
+        TRIANGLE,
         "tree 5 3\n0 3 0\n1 3 0\n2 4 0\n3 4 1\n4 4 1\n",
     ),
     (
+        &["zones"],
+        PlainReport::Zones,
+        TRIANGLE,
+        "tree 4 3\n0 3 0\n1 3 0\n2 3 0\n3 3 1\n",
+    ),
+    (
+        &["saliency"],
+        PlainReport::Saliency,
+        TRIANGLE,
+        "saliency 3\n0 1\n1 1\n2 1\n",
+    ),
+    (
+        &["saliency"],
+        PlainReport::Saliency,
+        "graph 4 4\n0 1 1\n1 2 4\n2 3 2\n0 3 3\n",
+        "saliency 4\n0 1\n1 3\n2 2\n3 3\n",
+    ),
+    (
+        &["tree"],
+        PlainReport::Tree,
         "graph 4 4\n0 1 5\n2 3 6\n1 2 1\n0 3 2\n",
         "tree 7 4\n0 5 0\n1 4 0\n2 4 0\n3 5 0\n4 6 1\n5 6 2\n6 6 5\n",
     ),
     (
+        &["tree"],
+        PlainReport::Tree,
         "graph 3 1\n0 1 4\n",
         "tree 4 3\n0 3 0\n1 3 0\n2 2 0\n3 3 4\n",
     ),
-    ("graph 2 0\n", "tree 2 2\n0 0 0\n1 1 0\n"),
     (
+        &["cut", "--level", "4"],
+        PlainReport::Cut(4),
+        "graph 3 1\n0 1 4\n",
+        "labels 3 2\n0 1\n1 1\n2 2\n",
+    ),
+    (
+        &["saliency"],
+        PlainReport::Saliency,
+        "graph 3 1\n0 1 4\n",
+        "saliency 1\n0 4\n",
+    ),
+    (
+        &["cut", "--level", "1"],
+        PlainReport::Cut(1),
+        "graph 4 3\n0 1 1\n1 2 5\n2 3 2\n",
+        "labels 4 3\n0 1\n1 1\n2 2\n3 3\n",
+    ),
+    (
+        &["tree"],
+        PlainReport::Tree,
+        "graph 2 0\n",
+        "tree 2 2\n0 0 0\n1 1 0\n",
+    ),
+    (
+        &["tree"],
+        PlainReport::Tree,
         "graph 2 1\n0 1 4294967295\n",
         "tree 3 2\n0 2 0\n1 2 0\n2 2 4294967295\n",
     ),
     (
+        &["tree"],
+        PlainReport::Tree,
         "# roads\ngraph 2 1\r\n0 1 7 # north\r\n",
         "tree 3 2\n0 2 0\n1 2 0\n2 2 7\n",
     ),
 ];
 
 #[test]
-fn worked_trees(rt: HostRuntime) -> Result<(), Fail> {
-    for (input, want) in WORKED {
-        let report = tree_report(rt.alloc(), input)?.expect(&rt, "a well-formed input");
-        assert_eq!(rt; report.as_str(), want, "of {input:?}");
+fn worked_reports(rt: HostRuntime) -> Result<(), Fail> {
+    for (_, report, input, want) in WORKED {
+        let text = report_of(rt.alloc(), input, report)?.expect(&rt, "a well-formed input");
+        assert_eq!(rt; text.as_str(), want, "of {input:?}");
     }
     Ok(())
 }
@@ -54,43 +120,86 @@ fn other_texts(rt: HostRuntime) -> Result<(), Fail> {
         "graph 2 1\n0 0 3\n",
         "graph 2 1\n0 2 3\n",
     ] {
-        assert!(rt; tree_report(rt.alloc(), input)?.is_none(), "of {input:?}");
+        let report = report_of(rt.alloc(), input, PlainReport::Tree)?;
+        assert!(rt; report.is_none(), "of {input:?}");
     }
     Ok(())
 }
 
-/// What the program writes for the word `tree` and this input, and the code with which it ends.
-fn program_report(
+/// Sizes of tiles and numbers of workers. None of them changes a report.
+const TILINGS: [&[&str]; 5] = [
+    &[],
+    &["--tile", "1", "--workers", "1"],
+    &["--tile", "1", "--workers", "2"],
+    &["--tile", "1", "--workers", "64"],
+    &["--tile", "2"],
+];
+
+/// Runs the program on these words, with a tiling.
+fn run_tiled<'a>(
     rt: &(impl Threads + Sync),
     alloc: Global,
+    words: &[&'a str],
+    tiling: &[&'a str],
     input: &str,
-) -> Result<(MemSink, u8), Fail> {
-    let mut words = Words::new(alloc);
-    words.push("tree")?;
-    let mut source = QuietSource::new(Vec::from_slice(alloc, input.as_bytes())?);
-    let mut out = MemSink::with_room(alloc, 4096, 4096, Vec::new(alloc))?;
-    let mut err = TallySink::new();
-    let status = run(
-        rt,
-        alloc,
-        &words,
-        &mut source,
-        &mut out,
-        &mut err,
-        &OpenGate,
-    );
-    Ok((out, status.code()))
+) -> Result<Ran, Fail> {
+    let mut all = Vec::from_slice(alloc, words)?;
+    for word in tiling {
+        all.push(*word)?;
+    }
+    run_well(rt, alloc, &all, input.as_bytes())
+}
+
+/// Runs the program on these words, with a tiling, and compares what it writes with what is wanted.
+fn runs<'a>(
+    rt: &(impl Threads + Sync + Abort),
+    alloc: Global,
+    words: &[&'a str],
+    tiling: &[&'a str],
+    input: &str,
+    want: &str,
+) -> Result<(), Fail> {
+    let ran = run_tiled(rt, alloc, words, tiling, input)?;
+    assert_eq!(rt; ran.code, 0, "of {input:?}");
+    assert_eq!(rt; ran.out.taken(), want.as_bytes(), "of {input:?}");
+    assert!(rt; ran.err.taken().is_empty(), "of {input:?}");
+    Ok(())
+}
+
+/// Runs the program on these words with each tiling, and compares what it writes with what is wanted.
+fn runs_with_each_tiling(
+    rt: &(impl Threads + Sync + Abort),
+    alloc: Global,
+    words: &[&'static str],
+    input: &str,
+    want: &str,
+) -> Result<(), Fail> {
+    for tiling in TILINGS {
+        runs(rt, alloc, words, tiling, input, want)?;
+    }
+    Ok(())
 }
 
 #[test]
-fn the_program_writes_the_worked_trees(rt: HostRuntime) -> Result<(), Fail> {
-    for (input, want) in WORKED {
-        let (out, code) = program_report(&rt, rt.alloc(), input)?;
-        assert_eq!(rt; code, 0, "of {input:?}");
-        assert_eq!(rt; out.taken(), want.as_bytes(), "of {input:?}");
+fn the_program_writes_the_worked_reports(rt: HostRuntime) -> Result<(), Fail> {
+    for (words, _, input, want) in WORKED {
+        runs_with_each_tiling(&rt, rt.alloc(), words, input, want)?;
     }
-    Ok(())
+    let picture = "P5\n2 2\n9\n\0\x03\x03\t";
+    let want = "tree 7 4\n0 4 0\n1 4 0\n2 5 0\n3 6 0\n4 5 3\n5 6 3\n6 6 6\n";
+    runs_with_each_tiling(&rt, rt.alloc(), &["tree"], picture, want)
 }
+
+/// Reports that are compared on many graphs, and their words.
+const COMPARED: [(&[&str], PlainReport); 7] = [
+    (&["tree"], PlainReport::Tree),
+    (&["zones"], PlainReport::Zones),
+    (&["saliency"], PlainReport::Saliency),
+    (&["cut"], PlainReport::Cut(0)),
+    (&["cut", "--level", "1"], PlainReport::Cut(1)),
+    (&["cut", "--level", "2"], PlainReport::Cut(2)),
+    (&["cut", "--level", "3"], PlainReport::Cut(3)),
+];
 
 /// The next number of a generator, which is good enough to mix small graphs.
 fn next(state: u32) -> u32 {
@@ -114,14 +223,58 @@ fn mixed_graph(alloc: Global, seed: u32) -> Result<String, AllocError> {
     Ok(text)
 }
 
+/// Compares the program's reports on a graph, with a tiling, with those of the definitions.
+fn agrees_on(
+    rt: &(impl Threads + Sync + Abort),
+    alloc: Global,
+    input: &str,
+    tiling: &[&'static str],
+) -> Result<(), Fail> {
+    for (words, report) in COMPARED {
+        let want = report_of(alloc, input, report)?.expect(rt, "a well-formed input");
+        runs(rt, alloc, words, tiling, input, want.as_str())?;
+    }
+    Ok(())
+}
+
 #[test]
 fn the_program_and_the_definitions_agree(rt: HostRuntime) -> Result<(), Fail> {
     for seed in 0..60 {
         let input = mixed_graph(rt.alloc(), seed)?;
-        let want = tree_report(rt.alloc(), input.as_str())?.expect(&rt, "a well-formed input");
-        let (out, code) = program_report(&rt, rt.alloc(), input.as_str())?;
-        assert_eq!(rt; code, 0, "of {input:?}");
-        assert_eq!(rt; out.taken(), want.as_bytes(), "of {input:?}");
+        let tiling = TILINGS[seed as usize % TILINGS.len()];
+        agrees_on(&rt, rt.alloc(), input.as_str(), tiling)?;
     }
+    Ok(())
+}
+
+/// The sides and seeds of pictures that are made, and their words.
+const MADE: [(&[&str], u32, u32); 6] = [
+    (&["--make", "1", "--seed", "0"], 1, 0),
+    (&["--make", "2"], 2, 1),
+    (&["--make", "2", "--seed", "1"], 2, 1),
+    (&["--make", "2", "--seed", "4294967295"], 2, 4_294_967_295),
+    (&["--make", "3", "--seed", "7"], 3, 7),
+    (&["--make", "4", "--seed", "2"], 4, 2),
+];
+
+#[test]
+fn the_program_and_the_definitions_agree_on_made_pictures(rt: HostRuntime) -> Result<(), Fail> {
+    for (words, side, seed) in MADE {
+        let picture = made_picture(rt.alloc(), side, seed)?;
+        let tree = report_of(rt.alloc(), picture.as_str(), PlainReport::Tree)?;
+        let want = tree.expect(&rt, "a well-formed input");
+        let ran = run_tiled(&rt, rt.alloc(), &["tree"], words, "")?;
+        assert_eq!(rt; ran.code, 0, "of {words:?}");
+        assert_eq!(rt; ran.out.taken(), want.as_bytes(), "of {words:?}");
+    }
+    Ok(())
+}
+
+// The samples of the picture are 60, 94, 129 and 180.
+#[test]
+fn a_made_picture(rt: HostRuntime) -> Result<(), Fail> {
+    let picture = made_picture(rt.alloc(), 2, 1)?;
+    let want = "graph 4 4\n0 1 34\n0 2 69\n1 3 86\n2 3 51\n";
+    assert_eq!(rt; picture.as_str(), want);
     Ok(())
 }

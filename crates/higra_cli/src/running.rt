@@ -24,8 +24,9 @@ use std::thread::Threads;
 /// and writes it to `out`. Where the run is refused, `err` gets the fault line of the status.
 ///
 /// The refusals come in this order: the words; each read, its failure first and then an input that
-/// is too long; the faults of the input; the writes. Memory may run out at any point before the
-/// first byte of `out` is written. A failure of `err` changes nothing.
+/// is too long; the faults of the input; that it is no picture, has too many tiles, or too many
+/// labels; the writes. Memory may run out at any point before the first byte of `out` is written. A
+/// failure of `err` changes nothing.
 #[tactic(auto, using(crate::proofs::RunningLemmas::complete_from))]
 pub fn run<S: Source, K: Sink, E: Sink, G: Gate>(
     rt: &(impl Threads + Sync),

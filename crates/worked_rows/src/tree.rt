@@ -88,17 +88,17 @@ pub(crate) fn tree_of(alloc: Global, graph: &PlainGraph) -> Result<PlainTree, Al
 
 impl PlainTree {
     /// The parent of a node.
-    pub fn parent(&self, node: usize) -> usize {
+    pub(crate) fn parent(&self, node: usize) -> usize {
         self.nodes.get(node).map_or(node, |found| found.parent)
     }
 
     /// The altitude of a node.
-    pub fn altitude(&self, node: usize) -> u64 {
+    pub(crate) fn altitude(&self, node: usize) -> u64 {
         self.nodes.get(node).map_or(0, |found| found.altitude)
     }
 
     /// The path of a node: the node, its parent and so on up to a root.
-    pub fn path(&self, alloc: Global, node: usize) -> Result<Vec<usize>, AllocError> {
+    pub(crate) fn path(&self, alloc: Global, node: usize) -> Result<Vec<usize>, AllocError> {
         let mut path = vec![in alloc; node]?;
         let mut last = node;
         for _ in 0..self.nodes.len() {

@@ -153,3 +153,24 @@ fn a_graph_that_is_no_picture(rt: HostRuntime) -> Result<(), Fail> {
     is_as_wanted(&rt, &ran, 3, b"", line);
     Ok(())
 }
+
+/// The edge list of two vertices with the most edges that there may be, written as so many lines.
+fn parallel_edges(alloc: Global, lines: u32) -> Result<Vec<u8>, AllocError> {
+    let mut bytes = Vec::from_slice(alloc, b"graph 2 4194304\n")?;
+    for _ in 0..lines {
+        bytes.extend_from_slice(b"0 1 7\n")?;
+    }
+    Ok(bytes)
+}
+
+#[test]
+fn as_many_edges_as_there_may_be(rt: HostRuntime) -> Result<(), Fail> {
+    let most = parallel_edges(rt.alloc(), 4_194_304)?;
+    let ran = run_well(&rt, rt.alloc(), &["tree"], &most)?;
+    is_as_wanted(&rt, &ran, 0, b"tree 3 2\n0 2 0\n1 2 0\n2 2 7\n", b"");
+    let more = parallel_edges(rt.alloc(), 4_194_305)?;
+    let refused = run_well(&rt, rt.alloc(), &["tree"], &more)?;
+    let line = b"higra: input 5 Trailing at 25165840 value 0\n";
+    is_as_wanted(&rt, &refused, 3, b"", line);
+    Ok(())
+}

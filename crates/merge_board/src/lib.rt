@@ -12,6 +12,7 @@ mod seats;
 mod serving;
 mod slots;
 mod view;
+mod working;
 
 pub use arrival::Arrival;
 pub use board::Board;
@@ -20,3 +21,4 @@ pub use seat::Seat;
 pub use seats::Seats;
 pub use serving::serve;
 pub use view::View;
+pub use working::hierarchy;

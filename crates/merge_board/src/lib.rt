@@ -10,6 +10,7 @@ mod rule;
 mod seat;
 mod seats;
 mod serving;
+mod setting_up;
 mod slots;
 mod view;
 mod working;

@@ -1,7 +1,7 @@
 ghost use Rattle.std.specs.Thread.{IsSync};
-ghost use Rattle.std.specs.Prelude.{◌≡◌, ◌≤◌, All, length};
-ghost use Rattle.merge_board.specs.Seats.{IsSeatOf, IsReady, IsDone, AreAllSeats};
-ghost use Rattle.merge_board.specs.Numbers.{numbers};
+ghost use Rattle.std.specs.Prelude.{◌≡◌, All};
+ghost use Rattle.merge_board.specs.Seats.{IsReady, IsDone, AreAllSeats};
+ghost use Rattle.merge_board.specs.Serving.{AreReady, AreServed, numbers};
 
 use crate::board::Board;
 use crate::seat::Seat;
@@ -42,11 +42,8 @@ fn serve_all<R: Threads + Sync, G: Gate>(
     seats: &mut [Seat],
 )
     requires plan { plan.now ≡ board.now.plan }
-    requires each { All (λ seat. IsSeatOf seat board.now) seats.old }
-    requires ready { All IsReady seats.old }
-    ensures each { All (λ seat. IsSeatOf seat board.now) seats.new }
-    ensures done { All IsDone seats.new }
-    ensures numbers { numbers seats.new ≡ numbers seats.old }
+    requires ready { AreReady seats.old board.now }
+    ensures { AreServed seats.old seats.new board.now }
 {
     match seats {
         [] => (),
@@ -56,12 +53,12 @@ fn serve_all<R: Threads + Sync, G: Gate>(
             join_mut(
                 rt,
                 &mut ||
-                    requires { IsSync R.row × IsSync G.row × (plan.now ≡ board.now.plan) × All (λ seat. IsSeatOf seat board.now) front.now × All IsReady front.now }
-                    ensures { All (λ seat. IsSeatOf seat board.entry.now) front.exit.now × All IsDone front.exit.now × (numbers front.exit.now ≡ numbers front.entry.now) }
+                    requires { IsSync R.row × IsSync G.row × (plan.now ≡ board.now.plan) × AreReady front.now board.now }
+                    ensures { AreServed front.entry.now front.exit.now board.entry.now }
                 { serve_all(rt, board, plan, gate, front) },
                 &mut ||
-                    requires { IsSync R.row × IsSync G.row × (plan.now ≡ board.now.plan) × All (λ seat. IsSeatOf seat board.now) back.now × All IsReady back.now }
-                    ensures { All (λ seat. IsSeatOf seat board.entry.now) back.exit.now × All IsDone back.exit.now × (numbers back.exit.now ≡ numbers back.entry.now) }
+                    requires { IsSync R.row × IsSync G.row × (plan.now ≡ board.now.plan) × AreReady back.now board.now }
+                    ensures { AreServed back.entry.now back.exit.now board.entry.now }
                 { serve_all(rt, board, plan, gate, back) },
             );
         }

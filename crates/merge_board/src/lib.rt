@@ -13,6 +13,7 @@ mod serving;
 mod setting_up;
 mod slots;
 mod view;
+mod working;
 
 pub use arrival::Arrival;
 pub use board::Board;
@@ -21,3 +22,4 @@ pub use seat::Seat;
 pub use seats::Seats;
 pub use serving::serve;
 pub use view::View;
+pub use working::hierarchy;

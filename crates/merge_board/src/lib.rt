@@ -23,3 +23,6 @@ pub use seats::Seats;
 pub use serving::serve;
 pub use view::View;
 pub use working::hierarchy;
+
+#[cfg(test)]
+mod tests;

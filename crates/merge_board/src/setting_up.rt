@@ -1,5 +1,6 @@
-ghost use Rattle.std.specs.Prelude.{◌≡◌, ℕ, ◌+◌, ◌<◌, ◌≤◌, [], All, IfOk, length, map, replicate, reverse};
+ghost use Rattle.std.specs.Prelude.{◌≡◌, ◌+◌, ◌<◌, ◌≤◌, [], All, IfOk, replicate, reverse};
 ghost use Rattle.std.specs.List.{range_with_len};
+ghost use Rattle.merge_board.specs.Numbers.{numbers};
 ghost use Rattle.merge_board.specs.Seats.{AreAllSeats, IsReady, IsSeatOf, first_view, fresh_seats, split_left, split_right};
 
 use crate::board::Board;
@@ -25,7 +26,7 @@ impl Board {
         ensures workers { IfOk result (λ made. made.0.workers ≡ workers) }
         ensures seats { IfOk result (λ made. AreAllSeats made.1 made.0) }
         ensures ready { IfOk result (λ made. All IsReady made.1) }
-        ensures numbers { IfOk result (λ made. map (λ seat. seat.view.number) made.1 ≡ reverse (range_with_len 0 workers)) }
+        ensures numbers { IfOk result (λ made. numbers made.1 ≡ reverse (range_with_len 0 workers)) }
         ensures unseen { IfOk result (λ made. All (λ seat. seat.view.seen ≡ 0) made.1) }
     {
         let seats = vacant_seats(alloc)?;

@@ -1,6 +1,5 @@
-use Rattle.std.proofs.Common.{rules, ◌≡◌, ℕ, ◌-◌, ◌<◌, ◌≤◌, Some, ap, sym, subst, ◌∙◌, arith}
-use Rattle.border_climb.specs.Stands.{PartState}
-use Rattle.tile_plan.specs.Plan.{TilePlan, tile_count, part_count, root, mother, left, right}
+use Rattle.std.proofs.Common.{rules, ◌≡◌, ℕ, ◌-◌, ◌<◌, ◌≤◌, Some, ap, sym, subst, arith}
+use Rattle.tile_plan.specs.Plan.{TilePlan, tile_count, part_count, mother, left, right}
 use Rattle.merge_board.specs.declared.view.View.{View}
 use Rattle.merge_board.proofs.Doors.{mother_merge, mother_inner, mother_later}
 use Rattle.merge_board.specs.Fits.{Fits}

@@ -1,7 +1,7 @@
 ghost use Rattle.std.specs.Prelude.{◌≡◌, ◌+◌, ◌<◌, ◌≤◌, [], All, IfOk, replicate, reverse};
 ghost use Rattle.std.specs.List.{range_with_len};
-ghost use Rattle.merge_board.specs.Numbers.{numbers};
 ghost use Rattle.merge_board.specs.Seats.{AreAllSeats, IsReady, IsSeatOf, first_view, fresh_seats, split_left, split_right};
+ghost use Rattle.merge_board.specs.Serving.{numbers};
 
 use crate::board::Board;
 use crate::rule::OneWorker;

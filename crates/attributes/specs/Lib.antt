@@ -1,0 +1,5 @@
+pub mod Attributes
+pub mod AttributesFields
+pub mod Floors
+pub mod Gathering
+pub mod Report

@@ -1,6 +1,5 @@
-ghost use Rattle.std.specs.Prelude.{◌≡◌, ◌<◌, ◌≤◌, length, map, IfOk, slice_set, slice_index_or, Some, None};
+ghost use Rattle.std.specs.Prelude.{◌≡◌, ◌<◌, ◌≤◌, length, map, IfOk, slice_set, slice_index_or, replicate, Some, None};
 ghost use Rattle.std.specs.List.{range_with_len};
-ghost use Rattle.std.specs.Option.{option_map_or};
 ghost use Rattle.attributes.specs.Attributes.{floor};
 ghost use Rattle.attributes.specs.Floors.{AreLightest, AreEdgesRead, lowered};
 
@@ -26,12 +25,21 @@ fn lightest(alloc: Global, graph: &Graph) -> Result<Vec<Option<u32>>, AllocError
     ensures edges { IfOk result (λ lightest. AreEdgesRead graph.now) }
 {
     let mut lightest = vec![in alloc; None; graph.n() as usize]?;
+    note_weights(graph, &mut lightest);
+    Ok(lightest)
+}
+
+// Notes the weight of each edge at both of its ends.
+fn note_weights(graph: &Graph, lightest: &mut [Option<u32>])
+    requires { lightest.old ≡ replicate graph.now.n None }
+    ensures lightest { AreLightest graph.now lightest.new }
+    ensures edges { AreEdgesRead graph.now }
+{
     for e in 0..graph.m() {
         let edge = graph.edge(e);
-        lower(&mut lightest, edge.u, edge.w);
-        lower(&mut lightest, edge.v, edge.w);
+        lower(lightest, edge.u, edge.w);
+        lower(lightest, edge.v, edge.w);
     }
-    Ok(lightest)
 }
 
 // Notes a weight at a vertex where none is noted that is as light.

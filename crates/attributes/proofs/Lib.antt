@@ -5,3 +5,4 @@ pub mod Lights
 pub mod LowFloors
 pub mod Rows
 pub mod Totals
+pub mod Made

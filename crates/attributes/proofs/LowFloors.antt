@@ -195,6 +195,18 @@ floors-low g ends i x hi hx a =
           (floor-made g ends made.0 made.1.0 x hx (subst (λ (j : ℕ). IsAbove (graph_tree g) j x) (sym made.1.1) over))
     ]
 
+-- floors are weights, or 0, and fit 32 bits where the weights do
+pub floor-small : (g : WeightedGraph) → All (λ (e : Edge). e.w < 2 ^ 32) g.edges → (x : ℕ) → floor g x < 2 ^ 32
+floor-small g small x = elim (filter-some (has_end x) g.edges) [
+  | inl none' ↦ let flat : floor g x ≡ 0 = ap (λ (es : List Edge). least (map (λ e. e.w) es)) none' in omega (arith, flat)
+  | inr some ↦
+      let k = some.0 in
+      let e = some.1.0 in
+      let low : floor g x ≤ e.w = floor-edge g x k e some.1.1.0 some.1.1.1 in
+      let light : e.w < 2 ^ 32 = subst (λ (f : Edge). f.w < 2 ^ 32) (get_or_from_slice_get g.edges k e e some.1.1.0) (small k e (slice_get_within g.edges k e some.1.1.0)) in
+      omega (arith, low, light)
+]
+
 -- altitudes are weights, or 0, and fit 32 bits where the weights do
 pub altitudes-small : (g : WeightedGraph) → All (λ (e : Edge). e.w < 2 ^ 32) g.edges → (j : ℕ) → j < length (graph_tree g).parents → altitude (graph_tree g) j < 2 ^ 32
 altitudes-small g small j h =

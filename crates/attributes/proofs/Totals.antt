@@ -19,11 +19,12 @@ use Rattle.hg_base.proofs.Levels.{level-tree}
 use Rattle.hg_base.proofs.Passing.{passing}
 use Rattle.hg_base.proofs.Tops.{is_above-from, is_above-to}
 use Rattle.partition_tree.specs.Forest.{nodes, IsForest}
+use Rattle.partition_tree.proofs.TreeLemmas.{tree-forest}
 use Rattle.partition_tree.proofs.ForestClimbs.{forest-climbs, forest-leaves}
 use Rattle.attributes.specs.declared.gather.Operation.TheVariants as operations
 use Rattle.attributes.specs.Gathering.{combined, neutral, gathered, AreOfLeaves}
 use Rattle.attributes.specs.Attributes.{AttributeLists, area, floor, least, vertices, area_of, volume_under, dynamics_under, altitude_over, attributes_in, attributes_of}
-use Rattle.attributes.specs.Floors.{AreEdgesRead}
+use Rattle.attributes.specs.Floors.{IsRead}
 use Rattle.attributes.proofs.Gathers.{gathered-agree, sum-part, least-low}
 use Rattle.attributes.proofs.LowFloors.{floors-low, altitudes-small, within-ranked, least-le, in-mapped}
 use Rattle.attributes.proofs.Rows.{values-agree, in-range, range-in}
@@ -36,14 +37,15 @@ pub record IsTreeOf (g : WeightedGraph) (t : ParentTree) : Type 0 where
   pub low : (i x : ℕ) → i < nodes t → x < t.leaves → IsAbove t i x → floor g x ≤ altitude_over t i
   pub small : (j : ℕ) → j < nodes t → altitude t j < 2 ^ 32
 
-pub tree-of_graph : (g : WeightedGraph) (t : ParentTree) → t ≡ graph_tree g → IsForest t → AreEdgesRead g → IsTreeOf g t
-tree-of_graph g t same f read =
+pub tree-of_graph : (g : WeightedGraph) (t : ParentTree) → t ≡ graph_tree g → IsRead g → IsTreeOf g t
+tree-of_graph g t same read =
+    let ends = read.edges.ends in
     subst (IsTreeOf g) (sym same) (record {
-      forest = subst IsForest same f;
+      forest = tree-forest g.n (ranked g) read.some_vertex read.vertices (AreApart-ranked g) (within-ranked g ends);
       leaves = refl;
-      some_leaf = (level-tree g.n (ranked g) (AreApart-ranked g) (within-ranked g read.ends) (AreByWeight-ranked g)).some_leaf;
-      low = λ i x hi hx a. floors-low g read.ends i x hi hx a;
-      small = altitudes-small g read.weights;
+      some_leaf = (level-tree g.n (ranked g) (AreApart-ranked g) (within-ranked g ends) (AreByWeight-ranked g)).some_leaf;
+      low = λ i x hi hx a. floors-low g ends i x hi hx a;
+      small = altitudes-small g read.edges.weights;
     })
 
 -- the vertices of a node are the leaves below it

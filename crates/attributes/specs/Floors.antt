@@ -1,5 +1,5 @@
 -- What reading the edges of a graph tells.
-use Rattle.std.specs.Prelude.{◌≡◌, ℕ, ◌<◌, ◌^◌, List, [], ◌∷◌, length, min, Option, Some, None, get_or, All}
+use Rattle.std.specs.Prelude.{◌≡◌, ℕ, ◌<◌, ◌≤◌, ◌^◌, List, [], ◌∷◌, length, min, Option, Some, None, get_or, All}
 use Rattle.std.specs.List.{fold}
 use Rattle.hg_base.specs.Graph.{WeightedGraph, JoinsTwo}
 use Rattle.attributes.specs.Attributes.{weights_at}
@@ -23,3 +23,9 @@ pub record AreLightest (g : WeightedGraph) (lightest : List (Option ℕ)) : Type
 pub record AreEdgesRead (g : WeightedGraph) : Type 0 where
   pub ends : All (JoinsTwo g.n) g.edges
   pub weights : All (λ e. e.w < 2 ^ 32) g.edges
+
+-- what reading a graph tells of it
+pub record IsRead (g : WeightedGraph) : Type 0 where
+  pub some_vertex : 1 ≤ g.n
+  pub vertices : g.n ≤ 1048576
+  pub edges : AreEdgesRead g

@@ -3,3 +3,4 @@ pub mod AttributesFields
 pub mod Floors
 pub mod Gathering
 pub mod Report
+pub mod Sums

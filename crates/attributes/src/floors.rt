@@ -1,7 +1,7 @@
 ghost use Rattle.std.specs.Prelude.{◌≡◌, ◌<◌, ◌≤◌, length, map, IfOk, slice_set, slice_index_or, replicate, Some, None};
 ghost use Rattle.std.specs.List.{range_with_len};
 ghost use Rattle.attributes.specs.Attributes.{floor};
-ghost use Rattle.attributes.specs.Floors.{AreLightest, AreEdgesRead, lowered};
+ghost use Rattle.attributes.specs.Floors.{AreLightest, AreEdgesRead, IsRead, lowered};
 
 use hg_base::Graph;
 use std::alloc::{AllocError, Global};
@@ -9,7 +9,7 @@ use std::alloc::{AllocError, Global};
 /// The floor of each vertex: the least weight of an edge at it, or 0 where it has none.
 pub(crate) fn floors(alloc: Global, graph: &Graph) -> Result<Vec<u64>, AllocError>
     ensures floors { IfOk result (λ floors. floors.items ≡ map (floor graph.now) (range_with_len 0 graph.now.n)) }
-    ensures edges { IfOk result (λ floors. AreEdgesRead graph.now) }
+    ensures read { IfOk result (λ floors. IsRead graph.now) }
 {
     let lightest = lightest(alloc, graph)?;
     let mut floors = Vec::with_capacity(alloc, graph.n() as usize)?;

@@ -6,6 +6,7 @@ mod gather;
 mod laws;
 mod leaves;
 mod report;
+mod sums;
 mod table;
 
 pub use laws::{floors_are_low, volume_by_area};

@@ -3,9 +3,7 @@ ghost use Rattle.hg_base.specs.Tree.{graph_tree};
 ghost use Rattle.partition_tree.specs.Forest.{nodes};
 ghost use Rattle.attributes.specs.Attributes.{attributes_of, altitude_over, node_numbers};
 
-use crate::floors::floors;
-use crate::gather::{Operation, gathered};
-use crate::leaves::{areas, products};
+use crate::sums::NodeSums;
 use hg_base::{Graph, OutOfMemory};
 use partition_tree::Tree;
 use std::alloc::{AllocError, Global};
@@ -79,33 +77,28 @@ fn made(alloc: Global, graph: &Graph, tree: &Tree) -> Result<Attributes, AllocEr
     requires { tree.now ≡ graph_tree graph.now }
     ensures { IfOk result (λ attributes. attributes ≡ attributes_of graph.now) }
 {
-    let floors = floors(alloc, graph)?;
-    let vertex_areas = areas(alloc, graph)?;
-    let products = products(alloc, &vertex_areas, &floors)?;
-    let areas = gathered(alloc, tree, Operation::Sum, &vertex_areas)?;
-    let sums = gathered(alloc, tree, Operation::Sum, &products)?;
-    let lowest = gathered(alloc, tree, Operation::Least, &floors)?;
-    let volumes = volumes(alloc, tree, &areas, &sums)?;
-    let dynamics = dynamics(alloc, tree, &lowest)?;
+    let sums = NodeSums::of(alloc, graph, tree)?;
+    let volumes = volumes(alloc, tree, &sums.areas, &sums.products)?;
+    let dynamics = dynamics(alloc, tree, &sums.lowest)?;
     Ok(Attributes {
-        areas,
+        areas: sums.areas,
         volumes,
         dynamics,
     })
 }
 
 // The altitude over each node times its area, less the sum over its vertices of area times floor.
-fn volumes(alloc: Global, tree: &Tree, areas: &[u64], sums: &[u64]) -> Result<Vec<u64>, AllocError>
+fn volumes(alloc: Global, tree: &Tree, areas: &[u64], products: &[u64]) -> Result<Vec<u64>, AllocError>
     requires areas { length areas.now ≡ nodes tree.now }
-    requires sums { length sums.now ≡ nodes tree.now }
+    requires products { length products.now ≡ nodes tree.now }
     requires fits { (i : ℕ) → i < nodes tree.now → altitude_over tree.now i * slice_index areas.now i < 2 ^ 64 }
-    requires low { (i : ℕ) → i < nodes tree.now → slice_index sums.now i ≤ altitude_over tree.now i * slice_index areas.now i }
-    ensures { IfOk result (λ volumes. volumes.items ≡ map (λ i. altitude_over tree.now i * slice_index areas.now i - slice_index sums.now i) (node_numbers tree.now)) }
+    requires low { (i : ℕ) → i < nodes tree.now → slice_index products.now i ≤ altitude_over tree.now i * slice_index areas.now i }
+    ensures { IfOk result (λ volumes. volumes.items ≡ map (λ i. altitude_over tree.now i * slice_index areas.now i - slice_index products.now i) (node_numbers tree.now)) }
 {
     let mut volumes = Vec::with_capacity(alloc, areas.len())?;
     for i in 0..tree.nodes() {
         let altitude = tree.altitude(tree.parent(i));
-        volumes.push(altitude * areas[i as usize] - sums[i as usize])?;
+        volumes.push(altitude * areas[i as usize] - products[i as usize])?;
     }
     Ok(volumes)
 }

@@ -1,7 +1,7 @@
 -- The least weights of the edges at vertices, edge after edge.
-use Rattle.std.proofs.Common.{◌≡◌, ℕ, ◌+◌, ◌<◌, ◌^◌, Bool, true, false, cond, inl, inr, refl, sym, ◌∙◌, subst, ap, arith, List, [], ◌∷◌, ◌++◌, append-nil, length, length-set, get_or, set, take, map, All}
-use Rattle.std.specs.Prelude.{◌==◌, ◌||◌, filter, min, Option, Some, None, slice_get, unwrap_or, replicate}
-use Rattle.std.specs.List.{range_with_len, fold}
+use Rattle.std.proofs.Common.{◌≡◌, ℕ, ◌+◌, ◌<◌, ◌^◌, Bool, true, false, cond, inl, inr, refl, sym, ◌∙◌, subst, ap, arith, List, [], ◌∷◌, ◌++◌, append-nil, length, length-set, get_or, set, take, map}
+use Rattle.std.specs.Prelude.{◌==◌, filter, min, Option, Some, None, slice_get, unwrap_or, replicate}
+use Rattle.std.specs.List.{range_with_len}
 use Rattle.std.proofs.lemmas.Bool.{cases_eq, eq-eqb, ne_eqb, or_left, or_right, or_from}
 use Rattle.std.proofs.lemmas.List.{map-append, take_more, take_all, get_or-set_same, get_or-set_other, get_or-replicate, length-replicate}
 use Rattle.std.proofs.lemmas.List.Elements.{filter-append}

@@ -1,17 +1,16 @@
 -- No floor of a vertex below a node is above the altitude of the node's parent.
 use Rattle.std.proofs.Common.{◌≡◌, ℕ, zero, suc, ◌+◌, ◌<◌, ◌≤◌, ◌^◌, Bool, true, ◌⊎◌, inl, inr, refl, sym, ◌∙◌, subst, ap, arith, List, [], ◌∷◌, length, map, All}
-use Rattle.std.specs.Prelude.{◌==◌, ◌||◌, filter, min, nat_le, Option, Some, slice_get}
+use Rattle.std.specs.Prelude.{◌==◌, filter, min, nat_le, Option, Some, slice_get}
 use Rattle.std.specs.Option.{option_map_or}
 use Rattle.std.specs.List.{fold}
 use Rattle.std.proofs.lemmas.Bool.{cases_Bool, cases_eq, eqb-true, eq-eqb, le-leb, leb-true, or_left, or_right, or_cases}
 use Rattle.std.proofs.lemmas.Option.{get_or_from_slice_get, slice_get_within}
 use Rattle.hg_base.specs.declared.graph.Edge.{Edge}
-use Rattle.hg_base.specs.Graph.{WeightedGraph, JoinsTwo, first_end, second_end, weight}
-use Rattle.hg_base.specs.Edges.{ListedEdge, EdgeList, IsIn, AreApart, AreWithin, Joined, joined, below, joins}
+use Rattle.hg_base.specs.Graph.{WeightedGraph, JoinsTwo}
+use Rattle.hg_base.specs.Edges.{ListedEdge, EdgeList, IsIn, AreWithin, Joined, joined, below, joins}
 use Rattle.hg_base.specs.Rank.{rank, number_at, listed, ranked}
 use Rattle.hg_base.specs.Saliency.{at_most}
-use Rattle.hg_base.specs.Tree.{ParentTree, parent, altitude, IsAbove, place, tree_of, graph_tree}
-use Rattle.hg_base.specs.Levels.{IsLevelTree}
+use Rattle.hg_base.specs.Tree.{parent, altitude, IsAbove, place, graph_tree}
 use Rattle.hg_base.proofs.Walks.{IsSame-joined}
 use Rattle.hg_base.proofs.Members.{IsIn-filter, IsIn-kept}
 use Rattle.hg_base.proofs.Sets.{IsIn-joins_kept}
@@ -22,9 +21,7 @@ use Rattle.hg_base.proofs.Climbs.{above-parent, ancestor-root}
 use Rattle.hg_base.proofs.FrontOnce.{leaf_or_made, leaf-alone, below-ends, ends-apart}
 use Rattle.hg_base.proofs.Levels.{level-tree}
 use Rattle.hg_base.proofs.Meeting.{altitude-leaf, altitude-inner}
-use Rattle.partition_tree.specs.Forest.{nodes}
 use Rattle.partition_tree.proofs.TreeLemmas.{tree-up}
-use Rattle.partition_tree.proofs.PathLemmas.{above-le}
 use Rattle.attributes.specs.Attributes.{has_end, weights_at, least, floor, altitude_over}
 use Rattle.attributes.proofs.Gathers.{least-low}
 

@@ -1,16 +1,15 @@
 -- What the passes give, put together: the attributes of the graph.
-use Rattle.std.proofs.Common.{◌≡◌, ℕ, ◌+◌, ◌-◌, ◌*◌, ◌<◌, ◌≤◌, ◌^◌, refl, sym, ◌∙◌, subst, ap, arith, List, length, get_or, map, All}
-use Rattle.std.specs.List.{range_with_len, sum_by}
+use Rattle.std.proofs.Common.{◌≡◌, ℕ, ◌+◌, ◌-◌, ◌*◌, ◌<◌, ◌≤◌, ◌^◌, sym, ◌∙◌, subst, ap, arith, List, length, get_or, map, All}
+use Rattle.std.specs.List.{range_with_len}
 use Rattle.std.proofs.lemmas.List.FromFn.{length-map-range_with_len, get_or-map-range_with_len, fill_by_all}
 use Rattle.std.proofs.lemmas.Nat.{mul-le}
 use Rattle.hg_base.specs.Graph.{WeightedGraph}
 use Rattle.hg_base.specs.Tree.{ParentTree, parent, graph_tree}
 use Rattle.hg_base.specs.Levels.{is_above}
-use Rattle.hg_base.proofs.Passing.{passing}
 use Rattle.partition_tree.specs.Forest.{nodes}
 use Rattle.attributes.specs.declared.gather.Operation.TheVariants as operations
 use Rattle.attributes.specs.Gathering.{gathered, neutral, AreOfLeaves}
-use Rattle.attributes.specs.Attributes.{AttributeLists, area, floor, least, vertices, area_of, volume_under, dynamics_under, altitude_over, node_numbers, attributes_in, attributes_of}
+use Rattle.attributes.specs.Attributes.{AttributeLists, area, floor, vertices, area_of, volume_under, dynamics_under, altitude_over, node_numbers, attributes_in, attributes_of}
 use Rattle.attributes.specs.AttributesFields.{AreOfNodes}
 use Rattle.attributes.specs.Floors.{IsRead}
 use Rattle.attributes.specs.Sums.{AreSums}
@@ -51,9 +50,9 @@ leaf-values g t floors areas products floor_slice area_slice leaves read floors_
           ∙ ap (λ (m : ℕ). map (λ x. get_or area_slice x 0 * get_or floor_slice x 0) (range_with_len 0 m)) (ap (λ (xs : List ℕ). length xs) same_areas ∙ long)
           ∙ values-agree (λ x. get_or area_slice x 0 * get_or floor_slice x 0) (λ x. area g x * floor g x) t.leaves
           (λ x h. ap (λ (xs : List ℕ). get_or xs x 0 * get_or floor_slice x 0) same_areas
-            ∙ ap (λ (xs : List ℕ). get_or areas x 0 * get_or xs x 0) same_floors
-            ∙ ap (λ (y : ℕ). y * get_or floors x 0) (area_at x h)
-            ∙ ap (λ (y : ℕ). area g x * y) (floor_at x h));
+          ∙ ap (λ (xs : List ℕ). get_or areas x 0 * get_or xs x 0) same_floors
+          ∙ ap (λ (y : ℕ). y * get_or floors x 0) (area_at x h)
+          ∙ ap (λ (y : ℕ). area g x * y) (floor_at x h));
       small = λ x h. subst (λ (y : ℕ). y ≤ 4096) (area_at x h) (few x 0 (omega (arith, h, long)));
       light = λ x h. floor-small g read.edges.weights x;
     }
@@ -83,9 +82,9 @@ pub products-fit : (g : WeightedGraph) (t : ParentTree) (floors areas products s
 products-fit g t floors areas products slice k v same =
     let each : (x : ℕ) → x < t.leaves → get_or products x 0 ≤ 17592186040320 =
     λ x h.
-      let w : floor g x ≤ 4294967295 = (let l = v.light x h in omega (arith, l)) in
-      let p : area g x * floor g x ≤ 4096 * 4294967295 = mul-le (area g x) (floor g x) 4096 4294967295 (v.small x h) w in
-      subst (λ (y : ℕ). y ≤ 17592186040320) (sym (ap (λ (xs : List ℕ). get_or xs x 0) v.products_are ∙ get_or-map-range_with_len (λ y. area g y * floor g y) 0 t.leaves x x 0 h (omega arith))) p in
+    let w : floor g x ≤ 4294967295 = (let l = v.light x h in omega (arith, l)) in
+    let p : area g x * floor g x ≤ 4096 * 4294967295 = mul-le (area g x) (floor g x) 4096 4294967295 (v.small x h) w in
+    subst (λ (y : ℕ). y ≤ 17592186040320) (sym (ap (λ (xs : List ℕ). get_or xs x 0) v.products_are ∙ get_or-map-range_with_len (λ y. area g y * floor g y) 0 t.leaves x x 0 h (omega arith))) p in
     subst (λ (xs : List ℕ). gathered operations.Sum (λ x. get_or xs x 0) (range_with_len 0 t.leaves) < 2 ^ 64) (sym same)
     (let bound = sum-bound (λ x. get_or products x 0) 17592186040320 t.leaves each in omega (arith, bound, k.forest.few_leaves))
 
@@ -179,14 +178,14 @@ attributes-made g t areas sums lowest volumes dynamics area_slice sum_slice lowe
         volumes_made
         ∙ values-agree (λ i. altitude_over t i * get_or area_slice i 0 - get_or sum_slice i 0) (λ i. volume_under g (altitude_over t i) (vertices t i)) (nodes t)
         (λ i h.
-          ap (λ (xs : List ℕ). altitude_over t i * get_or xs i 0 - get_or sum_slice i 0) same_areas
-          ∙ ap (λ (xs : List ℕ). altitude_over t i * get_or areas i 0 - get_or xs i 0) same_sums
-          ∙ depth (volume_under g (altitude_over t i) (vertices t i)) (get_or sums i 0) (altitude_over t i * get_or areas i 0) (node-balance g t areas sums lowest k v i h))
+        ap (λ (xs : List ℕ). altitude_over t i * get_or xs i 0 - get_or sum_slice i 0) same_areas
+        ∙ ap (λ (xs : List ℕ). altitude_over t i * get_or areas i 0 - get_or xs i 0) same_sums
+        ∙ depth (volume_under g (altitude_over t i) (vertices t i)) (get_or sums i 0) (altitude_over t i * get_or areas i 0) (node-balance g t areas sums lowest k v i h))
 
     dynamics_are : dynamics ≡ map (λ i. dynamics_under g (altitude_over t i) (vertices t i)) (node_numbers t)
     dynamics_are =
         dynamics_made
         ∙ values-agree (λ i. altitude_over t i - get_or lowest_slice i 0) (λ i. dynamics_under g (altitude_over t i) (vertices t i)) (nodes t)
         (λ i h.
-          ap (λ (xs : List ℕ). altitude_over t i - get_or xs i 0) same_lowest
-          ∙ ap (λ (y : ℕ). altitude_over t i - y) (v.lowest_are i h))
+        ap (λ (xs : List ℕ). altitude_over t i - get_or xs i 0) same_lowest
+        ∙ ap (λ (y : ℕ). altitude_over t i - y) (v.lowest_are i h))

@@ -1,14 +1,12 @@
 -- The attributes of a node's vertices from sums and least values over them.
-use Rattle.std.proofs.Common.{◌≡◌, ℕ, zero, suc, ◌+◌, ◌-◌, ◌*◌, ◌<◌, ◌≤◌, ◌^◌, Bool, true, inl, inr, refl, sym, ◌∙◌, subst, ap, arith, List, [], ◌∷◌, length, get_or, map, All, mul_comm}
-use Rattle.std.specs.Prelude.{min, filter}
+use Rattle.std.proofs.Common.{◌≡◌, ℕ, ◌+◌, ◌-◌, ◌*◌, ◌<◌, ◌≤◌, ◌^◌, inl, inr, refl, sym, ◌∙◌, subst, ap, arith, List, [], ◌∷◌, length, get_or, map, mul_comm}
+use Rattle.std.specs.Prelude.{min}
 use Rattle.std.specs.List.{range_with_len, fold, sum_by}
 use Rattle.std.proofs.lemmas.List.Sums.{sum_by-cons, sum_by-le}
 use Rattle.std.proofs.lemmas.List.Folds.{fold-map}
-use Rattle.std.proofs.lemmas.List.FromFn.{length-range_with_len, get_or-range_with_len, length-map-range_with_len, get_or-map-range_with_len, fill_by_all}
-use Rattle.std.proofs.lemmas.Nat.{mul-le}
+use Rattle.std.proofs.lemmas.List.FromFn.{length-range_with_len, get_or-range_with_len, get_or-map-range_with_len}
 use Rattle.std.proofs.Math.Nat.{mul-add, mul-zero}
-use Rattle.hg_base.specs.declared.graph.Edge.{Edge}
-use Rattle.hg_base.specs.Graph.{WeightedGraph, JoinsTwo}
+use Rattle.hg_base.specs.Graph.{WeightedGraph}
 use Rattle.hg_base.specs.Edges.{IsIn}
 use Rattle.hg_base.specs.Rank.{ranked}
 use Rattle.hg_base.specs.Tree.{ParentTree, parent, altitude, IsAbove, graph_tree}
@@ -16,18 +14,17 @@ use Rattle.hg_base.specs.Levels.{is_above}
 use Rattle.hg_base.proofs.Members.{IsIn-filter, IsIn-kept}
 use Rattle.hg_base.proofs.Ranked.{AreApart-ranked, AreByWeight-ranked}
 use Rattle.hg_base.proofs.Levels.{level-tree}
-use Rattle.hg_base.proofs.Passing.{passing}
 use Rattle.hg_base.proofs.Tops.{is_above-from, is_above-to}
 use Rattle.partition_tree.specs.Forest.{nodes, IsForest}
 use Rattle.partition_tree.proofs.TreeLemmas.{tree-forest}
 use Rattle.partition_tree.proofs.ForestClimbs.{forest-climbs, forest-leaves}
 use Rattle.attributes.specs.declared.gather.Operation.TheVariants as operations
 use Rattle.attributes.specs.Gathering.{combined, neutral, gathered, AreOfLeaves}
-use Rattle.attributes.specs.Attributes.{AttributeLists, area, floor, least, vertices, area_of, volume_under, dynamics_under, altitude_over, attributes_in, attributes_of}
+use Rattle.attributes.specs.Attributes.{area, floor, least, vertices, area_of, volume_under, altitude_over}
 use Rattle.attributes.specs.Floors.{IsRead}
-use Rattle.attributes.proofs.Gathers.{gathered-agree, sum-part, least-low}
+use Rattle.attributes.proofs.Gathers.{gathered-agree}
 use Rattle.attributes.proofs.LowFloors.{floors-low, altitudes-small, within-ranked, least-le, in-mapped}
-use Rattle.attributes.proofs.Rows.{values-agree, in-range, range-in}
+use Rattle.attributes.proofs.Rows.{in-range, range-in}
 
 -- what the tree of a graph keeps to
 pub record IsTreeOf (g : WeightedGraph) (t : ParentTree) : Type 0 where
@@ -95,10 +92,10 @@ lowest-is g t k values lowest a made i h =
     (λ x l. ap (λ (xs : List ℕ). get_or xs x 0) made ∙ get_or-map-range_with_len (floor g) 0 t.leaves x x 0 l (omega arith))
     ∙ least-all (map (floor g) (vertices t i)) (floor g some.0) (in-mapped (floor g) (vertices t i) some.0 (vertex-some t k.forest i some.0 some.1.0 some.1.1))
     (λ j m.
-      let x = in-mapped_back (floor g) (vertices t i) j m in
-      let low : floor g x.0 ≤ altitude_over t i = floors-in g t k i h x.0 x.1.0 in
-      let small : altitude_over t i < 2 ^ 32 = k.small (parent t i) (k.forest.within i h) in
-      omega (arith, low, small, x.1.1))
+    let x = in-mapped_back (floor g) (vertices t i) j m in
+    let low : floor g x.0 ≤ altitude_over t i = floors-in g t k i h x.0 x.1.0 in
+    let small : altitude_over t i < 2 ^ 32 = k.small (parent t i) (k.forest.within i h) in
+    omega (arith, low, small, x.1.1))
 
 -- the lowest floor is no higher than the altitude over the node
 pub lowest-low : (g : WeightedGraph) (t : ParentTree) → IsTreeOf g t → (i : ℕ) → i < nodes t → least (map (floor g) (vertices t i)) ≤ altitude_over t i

@@ -1,5 +1,5 @@
 -- What the fields of attributes stand for, and what they keep to.
-use Rattle.std.specs.Prelude.{◌≡◌, ℕ, ◌≤◌, length}
+use Rattle.std.specs.Prelude.{◌≡◌, ◌≤◌, length}
 use Rattle.attributes.specs.Attributes.{AttributeLists}
 use Rattle.attributes.specs.declared.table.Attributes.TheInside.{Inside}
 

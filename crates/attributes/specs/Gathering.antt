@@ -1,5 +1,5 @@
 -- Values of nodes, put together up a tree.
-use Rattle.std.specs.Prelude.{◌≡◌, ℕ, ◌+◌, ◌<◌, Bool, List, length, map, filter, min, get_or}
+use Rattle.std.specs.Prelude.{◌≡◌, ℕ, ◌+◌, ◌<◌, List, length, map, filter, min, get_or}
 use Rattle.std.specs.List.{range_with_len, fold}
 use Rattle.hg_base.specs.Tree.{ParentTree}
 use Rattle.hg_base.specs.Levels.{is_above}

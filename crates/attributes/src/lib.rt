@@ -13,3 +13,5 @@ pub use laws::{floors_are_low, volume_by_area};
 pub use report::write_attributes;
 pub use table::Attributes;
 
+#[cfg(test)]
+mod tests;

@@ -26,7 +26,10 @@ fn written(alloc: Global, attributes: &Attributes) -> Result<Vec<u8>, AllocError
     for i in 0..nodes {
         let area = attributes.area(i);
         let volume = attributes.volume(i);
-        push_line(&mut text, &[u64::from(i), area, volume, attributes.dynamics(i)])?;
+        push_line(
+            &mut text,
+            &[u64::from(i), area, volume, attributes.dynamics(i)],
+        )?;
     }
     Ok(text)
 }

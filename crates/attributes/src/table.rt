@@ -87,8 +87,21 @@ fn made(alloc: Global, graph: &Graph, tree: &Tree) -> Result<Attributes, AllocEr
     })
 }
 
+// The altitude of a node's parent, a root being its own parent.
+fn altitude_over(tree: &Tree, i: u32) -> u64
+    requires { i < nodes tree.now }
+    ensures { result ≡ altitude_over tree.now i }
+{
+    tree.altitude(tree.parent(i))
+}
+
 // The altitude over each node times its area, less the sum over its vertices of area times floor.
-fn volumes(alloc: Global, tree: &Tree, areas: &[u64], products: &[u64]) -> Result<Vec<u64>, AllocError>
+fn volumes(
+    alloc: Global,
+    tree: &Tree,
+    areas: &[u64],
+    products: &[u64],
+) -> Result<Vec<u64>, AllocError>
     requires areas { length areas.now ≡ nodes tree.now }
     requires products { length products.now ≡ nodes tree.now }
     requires fits { (i : ℕ) → i < nodes tree.now → altitude_over tree.now i * slice_index areas.now i < 2 ^ 64 }
@@ -97,7 +110,7 @@ fn volumes(alloc: Global, tree: &Tree, areas: &[u64], products: &[u64]) -> Resul
 {
     let mut volumes = Vec::with_capacity(alloc, areas.len())?;
     for i in 0..tree.nodes() {
-        let altitude = tree.altitude(tree.parent(i));
+        let altitude = altitude_over(tree, i);
         volumes.push(altitude * areas[i as usize] - products[i as usize])?;
     }
     Ok(volumes)
@@ -111,7 +124,7 @@ fn dynamics(alloc: Global, tree: &Tree, lowest: &[u64]) -> Result<Vec<u64>, Allo
 {
     let mut dynamics = Vec::with_capacity(alloc, lowest.len())?;
     for i in 0..tree.nodes() {
-        let altitude = tree.altitude(tree.parent(i));
+        let altitude = altitude_over(tree, i);
         dynamics.push(altitude - lowest[i as usize])?;
     }
     Ok(dynamics)

@@ -1,5 +1,4 @@
-use Rattle.std.proofs.Common.{◌≡◌, ◌+◌, ◌<◌, ◌≤◌, ◌^◌, ℕ, suc, sym, ◌∙◌, subst, arith, List, length, get_or, set}
-use Rattle.hg_base.specs.Tree.{parent}
+use Rattle.std.proofs.Common.{◌≡◌, ◌+◌, ◌<◌, ◌^◌, ℕ, suc, sym, ◌∙◌, subst, arith, List, length, get_or, set}
 use Rattle.attributes.specs.Gathering.{combined}
 use Rattle.attributes.proofs.Ups.{AreGatheredTo, gathered_first, gathered_root, gathered_up, both-fit, gathered_all}
 use Rattle.attributes.proofs.gather.gather_up.Goals as goal

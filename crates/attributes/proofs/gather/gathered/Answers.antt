@@ -1,8 +1,7 @@
-use Rattle.std.proofs.Common.{◌≡◌, ◌++◌, ◌-◌, ◌^◌, ◌<◌, ◌≤◌, ℕ, List, sym, ◌∙◌, ap, subst, arith, length, get_or}
-use Rattle.std.specs.List.{range_with_len}
+use Rattle.std.proofs.Common.{◌≡◌, ℕ, List, sym, ap, subst, arith, length}
 use Rattle.partition_tree.specs.Forest.{nodes}
 use Rattle.partition_tree.proofs.ForestClimbs.{forest-leaves}
-use Rattle.attributes.specs.Gathering.{gathered, AreOfLeaves}
+use Rattle.attributes.specs.Gathering.{AreOfLeaves}
 use Rattle.attributes.proofs.LeafValues.{AreFilled, filled-by, written-back, filled-fits, of-leaves}
 use Rattle.attributes.proofs.gather.gathered.Goals as goal
 

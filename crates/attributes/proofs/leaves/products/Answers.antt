@@ -1,4 +1,4 @@
-use Rattle.std.proofs.Common.{◌*◌, ap, arith, get_or, refl}
+use Rattle.std.proofs.Common.{◌*◌, get_or, refl}
 use Rattle.attributes.proofs.Rows.{values_more}
 use Rattle.attributes.proofs.leaves.products.Goals as goal
 

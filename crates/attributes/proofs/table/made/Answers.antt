@@ -1,4 +1,3 @@
-use Rattle.std.proofs.Common.{◌≡◌, ℕ, List, ◌∙◌, length}
 use Rattle.attributes.proofs.Totals.{IsTreeOf, tree-of_graph}
 use Rattle.attributes.proofs.Made.{volumes-fit, volumes-low, dynamics-low, attributes-made}
 use Rattle.attributes.proofs.table.made.Goals as goal

@@ -1,4 +1,4 @@
-use Rattle.std.proofs.Common.{◌≡◌, ◌*◌, ◌<◌, ◌^◌, ℕ, sym, subst, List, length, get_or, All}
+use Rattle.std.proofs.Common.{◌*◌, ◌<◌, ◌^◌, ℕ, sym, subst, get_or, All}
 use Rattle.std.specs.List.{range_with_len}
 use Rattle.attributes.specs.Attributes.{area, floor}
 use Rattle.attributes.proofs.Totals.{IsTreeOf, tree-of_graph}

@@ -15,10 +15,12 @@ combined-assoc : (op : Operation) (a b d : ℕ) → combined op (combined op a b
 combined-assoc operations.Sum a b d = omega arith
 combined-assoc operations.Least a b d = omega arith
 
+-- nor that of two
 combined-comm : (op : Operation) (a b : ℕ) → combined op a b ≡ combined op b a
 combined-comm operations.Sum a b = omega arith
 combined-comm operations.Least a b = omega arith
 
+-- so two values that come after another may change places
 combined-swap : (op : Operation) (a b d : ℕ) → combined op (combined op a b) d ≡ combined op (combined op a d) b
 combined-swap op a b d = combined-assoc op a b d ∙ ap (combined op a) (combined-comm op b d) ∙ sym (combined-assoc op a d b)
 
@@ -27,10 +29,12 @@ combined-neutral : (op : Operation) (a : ℕ) → a < 2 ^ 64 → combined op (ne
 combined-neutral operations.Sum a h = omega arith
 combined-neutral operations.Least a h = omega arith
 
+-- it is itself such a number
 neutral-fits : (op : Operation) → neutral op < 2 ^ 64
 neutral-fits operations.Sum = omega arith
 neutral-fits operations.Least = omega arith
 
+-- equal values put together are equal
 combined-both : (op : Operation) (a b d e : ℕ) → a ≡ d → b ≡ e → combined op a b ≡ combined op d e
 combined-both op a b d e p q = ap (λ (x : ℕ). combined op x b) p ∙ ap (combined op d) q
 
@@ -41,10 +45,12 @@ gathered-pass op f p n passes =
     ∙ ap (fold (combined op) (neutral op)) (map-append f (passing p n) (n ∷ []))
     ∙ fold_push (combined op) (neutral op) (map f (passing p n)) (f n)
 
+-- where it doesn't, nothing is added
 pub gathered-skip : (op : Operation) (f : ℕ → ℕ) (p : ℕ → Bool) (n : ℕ) → p n ≡ false → gathered op f (passing p (suc n)) ≡ gathered op f (passing p n)
 gathered-skip op f p n fails =
     ap (gathered op f) (passing-suc p n ∙ ap (λ (b : Bool). passing p n ++ cond b (n ∷ []) []) fails ∙ append-nil (passing p n))
 
+-- one more number of all
 gathered-more : (op : Operation) (f : ℕ → ℕ) (n : ℕ) → gathered op f (range_with_len 0 (suc n)) ≡ combined op (gathered op f (range_with_len 0 n)) (f n)
 gathered-more op f n =
     ap (gathered op f) (range_to-suc n)

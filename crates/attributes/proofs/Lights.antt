@@ -125,6 +125,7 @@ lightest_all g e lightest all a = record {
   each = λ x h. a.each x h ∙ ap (λ (edges : List Edge). least_if_any (weights_in x edges)) (take_all e g.edges (omega arith));
 }
 
+-- and each edge has been read
 pub edges_all : (g : WeightedGraph) (e : ℕ) (lightest : List (Option ℕ)) → e ≡ length g.edges → AreLightestTo g e lightest → AreEdgesRead g
 edges_all g e lightest all a = record {
   ends = λ k d h. a.ends k d (omega arith);

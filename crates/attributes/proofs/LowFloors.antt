@@ -31,6 +31,7 @@ least-from a [] k i = absurd i
 least-from a (j ∷ js) k (inl same) = let low = least-low (min a j) js in omega (arith, low, same)
 least-from a (j ∷ js) k (inr later) = least-from (min a j) js k later
 
+-- so is the least of the whole list
 pub least-le : (ks : List ℕ) (k : ℕ) → IsIn k ks → least ks ≤ k
 least-le [] k i = absurd i
 least-le (j ∷ js) k (inl same) = let low = least-low j js in omega (arith, low, same)
@@ -42,6 +43,7 @@ in-at [] i x at = absurd (cc)
 in-at (y ∷ ys) zero x at = inl (cc)
 in-at (y ∷ ys) (suc i) x at = inr (in-at ys i x at)
 
+-- the value at an element is among the values
 pub in-mapped : {X Y : Type 0} (f : X → Y) (xs : List X) (x : X) → IsIn x xs → IsIn (f x) (map f xs)
 in-mapped f [] x i = absurd i
 in-mapped f (y ∷ ys) x (inl same) = inl (ap f same)
@@ -71,6 +73,7 @@ pub record IsRankedEdge (g : WeightedGraph) (f : ListedEdge) : Type 0 where
   pub v : f.v ≡ edge.v
   pub weight : f.weight ≡ edge.w
 
+-- each ranked edge is one of the graph's
 pub ranked-edge : (g : WeightedGraph) (f : ListedEdge) → IsIn f (ranked g) → IsRankedEdge g f
 ranked-edge g f i =
     let is = ranked-at g f i in

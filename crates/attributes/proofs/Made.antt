@@ -34,6 +34,7 @@ floors-light g n floors read made k d h =
     (sym (ap (λ (xs : List ℕ). get_or xs k d) made ∙ get_or-map-range_with_len (floor g) 0 n k k d (omega (arith, h, long)) (omega arith)))
     (floor-small g read.edges.weights k)
 
+-- the floors, the areas and their products, as they were read
 pub leaf-values : (g : WeightedGraph) (t : ParentTree) (floors areas products floor_slice area_slice : List ℕ) → t.leaves ≡ g.n → IsRead g →
     floors ≡ map (floor g) (range_with_len 0 g.n) → areas ≡ map (area g) (range_with_len 0 g.n) → All (λ (a : ℕ). a ≤ 4096) areas → floor_slice ≡ floors → area_slice ≡ areas →
     products ≡ map (λ x. get_or area_slice x 0 * get_or floor_slice x 0) (range_with_len 0 (length area_slice)) → AreLeafValues g t floors areas products
@@ -70,6 +71,7 @@ areas-bound g t floors areas products k v =
     (λ x h. subst (λ (y : ℕ). y ≤ 4096) (sym (ap (λ (xs : List ℕ). get_or xs x 0) v.areas_are ∙ get_or-map-range_with_len (area g) 0 t.leaves x x 0 h (omega arith))) (v.small x h)) in
     omega (arith, bound, k.forest.few_leaves)
 
+-- so their sum fits
 pub areas-fit : (g : WeightedGraph) (t : ParentTree) (floors areas products slice : List ℕ) → IsTreeOf g t → AreLeafValues g t floors areas products → slice ≡ areas →
     gathered operations.Sum (λ x. get_or slice x 0) (range_with_len 0 t.leaves) < 2 ^ 64
 areas-fit g t floors areas products slice k v same =
@@ -129,6 +131,7 @@ node-balance g t areas sums lowest k v i h =
     ∙ balance g (altitude_over t i) (vertices t i) (floors-in g t k i h)
     ∙ ap (λ (y : ℕ). altitude_over t i * y) (sym (v.areas_are i h))
 
+-- so the sum of products is no more than altitude times area
 pub volumes-low : (g : WeightedGraph) (t : ParentTree) (areas sums lowest area_slice sum_slice : List ℕ) → IsTreeOf g t → AreSums g t areas sums lowest → area_slice ≡ areas → sum_slice ≡ sums → (i : ℕ) → i < nodes t →
     get_or sum_slice i 0 ≤ altitude_over t i * get_or area_slice i 0
 volumes-low g t areas sums lowest area_slice sum_slice k v same_areas same_sums i h =
@@ -137,12 +140,14 @@ volumes-low g t areas sums lowest area_slice sum_slice k v same_areas same_sums 
     subst (λ (xs : List ℕ). get_or xs i 0 ≤ altitude_over t i * get_or area_slice i 0) (sym same_sums)
     (subst (λ (xs : List ℕ). get_or sums i 0 ≤ altitude_over t i * get_or xs i 0) (sym same_areas) low)
 
+-- and the lowest floor is no higher than the altitude
 pub dynamics-low : (g : WeightedGraph) (t : ParentTree) (areas sums lowest slice : List ℕ) → IsTreeOf g t → AreSums g t areas sums lowest → slice ≡ lowest → (i : ℕ) → i < nodes t →
     get_or slice i 0 ≤ altitude_over t i
 dynamics-low g t areas sums lowest slice k v same i h =
     subst (λ (xs : List ℕ). get_or xs i 0 ≤ altitude_over t i) (sym same)
     (subst (λ (y : ℕ). y ≤ altitude_over t i) (sym (v.lowest_are i h)) (lowest-low g t k i h))
 
+-- the lists of three kinds
 abbrev pub three_lists : List ℕ → List ℕ → List ℕ → AttributeLists
 three_lists a b d = record { areas = a; volumes = b; dynamics = d }
 
@@ -151,6 +156,7 @@ pub record AreMade (g : WeightedGraph) (lists : AttributeLists) : Type 0 where
   pub result : lists ≡ attributes_of g
   pub fit : AreOfNodes lists
 
+-- the areas, and what was made of altitudes and sums, are the attributes
 pub attributes-made : (g : WeightedGraph) (t : ParentTree) (areas sums lowest volumes dynamics area_slice sum_slice lowest_slice : List ℕ) → t ≡ graph_tree g → IsTreeOf g t → AreSums g t areas sums lowest →
     area_slice ≡ areas → sum_slice ≡ sums → lowest_slice ≡ lowest →
     volumes ≡ map (λ i. altitude_over t i * get_or area_slice i 0 - get_or sum_slice i 0) (node_numbers t) → dynamics ≡ map (λ i. altitude_over t i - get_or lowest_slice i 0) (node_numbers t) →

@@ -32,6 +32,7 @@ in-range a zero x i = absurd i
 in-range a (suc n) x (inl same) = omega (arith, same)
 in-range a (suc n) x (inr later) = let low : x < (a + 1) + n = in-range (a + 1) n x later in omega (arith, low)
 
+-- each number of the range is there
 pub range-in : (a n x : ℕ) → a ≤ x → x < a + n → IsIn x (range_with_len a n)
 range-in a zero x low high = absurd (omega arith)
 range-in a (suc n) x low high = elim (cases_eq a x) [

@@ -34,6 +34,7 @@ pub record IsTreeOf (g : WeightedGraph) (t : ParentTree) : Type 0 where
   pub low : (i x : ℕ) → i < nodes t → x < t.leaves → IsAbove t i x → floor g x ≤ altitude_over t i
   pub small : (j : ℕ) → j < nodes t → altitude t j < 2 ^ 32
 
+-- so it is for every graph that was read
 pub tree-of_graph : (g : WeightedGraph) (t : ParentTree) → t ≡ graph_tree g → IsRead g → IsTreeOf g t
 tree-of_graph g t same read =
     let ends = read.edges.ends in
@@ -78,11 +79,13 @@ least-all (j ∷ js) k i small =
     let first : min (neutral operations.Least) j ≡ j = omega (arith, fits) in
     ap (λ (a : ℕ). fold min a js) first
 
+-- each value is that at an element
 in-mapped_back : (f : ℕ → ℕ) (xs : List ℕ) (y : ℕ) → IsIn y (map f xs) → (x : ℕ) × (IsIn x xs × (f x ≡ y))
 in-mapped_back f [] y i = absurd i
 in-mapped_back f (x ∷ xs) y (inl same) = (x, (inl refl, same))
 in-mapped_back f (x ∷ xs) y (inr later) = let r = in-mapped_back f xs y later in (r.0, (inr r.1.0, r.1.1))
 
+-- the least of the floors of a node's leaves
 pub lowest-is : (g : WeightedGraph) (t : ParentTree) → IsTreeOf g t → (values lowest : List ℕ) → AreOfLeaves operations.Least t values lowest → values ≡ map (floor g) (range_with_len 0 t.leaves) → (i : ℕ) → i < nodes t →
     get_or lowest i 0 ≡ least (map (floor g) (vertices t i))
 lowest-is g t k values lowest a made i h =
@@ -115,6 +118,7 @@ balance-one a p f q s z low rest =
     let both : p * (a + z) ≡ a * p + p * z = mul-add p a z ∙ ap (λ (k : ℕ). k + p * z) (mul_comm p a) in
     omega (arith, whole, both, rest)
 
+-- the same of all vertices of a list
 pub balance : (g : WeightedGraph) (p : ℕ) (xs : List ℕ) → ((x : ℕ) → IsIn x xs → floor g x ≤ p) → volume_under g p xs + sum_by (λ x. area g x * floor g x) xs ≡ p * area_of g xs
 balance g p [] low = sym (mul-zero p)
 balance g p (x ∷ xs) low =

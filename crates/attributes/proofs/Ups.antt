@@ -43,6 +43,7 @@ gathered_first op t values long small = record {
 stop-root : (t : ParentTree) (i x : ℕ) → parent t i ≡ i → stop t x (suc i) ≡ stop t x i
 stop-root t i x root = elim (stop-cases t x i) [ inl here ↦ stop-here t x i here ∙ root ∙ sym here | inr past ↦ stop-past t x i past ]
 
+-- and so the invariant goes on past a root
 pub gathered_root : (op : Operation) (t : ParentTree) (values sums : List ℕ) (i : ℕ) → parent t i ≡ i → AreGatheredTo op t values i sums → AreGatheredTo op t values (suc i) sums
 gathered_root op t values sums i root g = record {
   one_each = g.one_each;

@@ -31,7 +31,7 @@ area g x = unwrap_or (slice_get g.areas x) 0
 abbrev pub area_of : WeightedGraph → List ℕ → ℕ
 area_of g xs = sum_by (area g) xs
 
--- their volume under altitude p: as if water stood up to p, and each vertex were its floor deep
+-- their volume under altitude p: for each vertex the area times the depth of its floor below p
 abbrev pub volume_under : WeightedGraph → ℕ → List ℕ → ℕ
 volume_under g p xs = sum_by (λ x. area g x * (p - floor g x)) xs
 

@@ -3,6 +3,7 @@ use Rattle.std.specs.Prelude.{◌≡◌, ◌≤◌, length}
 use Rattle.attributes.specs.Attributes.{AttributeLists}
 use Rattle.attributes.specs.declared.table.Attributes.TheInside.{Inside}
 
+-- the three lists
 abbrev pub lists_of_fields : Inside → AttributeLists
 lists_of_fields a = record { areas = a.areas.items; volumes = a.volumes.items; dynamics = a.dynamics.items }
 

@@ -1,0 +1,6 @@
+//! Minima of a graph, the least forest that is rooted in them, and the watershed cut between its trees.
+#![tactic(auto)]
+
+mod laws;
+
+pub use laws::{forest_by_walks, minima_by_walks};

@@ -1,3 +1,9 @@
 pub mod AnyIn
 pub mod MinimumWalks
 pub mod ForestWalks
+pub mod PlateauPasses
+pub mod KeyPasses
+pub mod Quiet
+pub mod PlateauLaws
+pub mod PlateauKeys
+pub mod LabelLemmas

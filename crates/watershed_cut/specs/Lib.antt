@@ -5,3 +5,5 @@ pub mod Forest
 pub mod Rooted
 pub mod Watershed
 pub mod Report
+pub mod MinimaFields
+pub mod Passes

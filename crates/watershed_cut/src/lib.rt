@@ -2,5 +2,10 @@
 #![tactic(auto)]
 
 mod laws;
+mod minima;
+mod plateaus;
+mod report;
 
 pub use laws::{forest_by_walks, minima_by_walks};
+pub use minima::Minima;
+pub use report::write_minima;

@@ -9,3 +9,6 @@ mod report;
 pub use laws::{forest_by_walks, minima_by_walks};
 pub use minima::Minima;
 pub use report::write_minima;
+
+#[cfg(test)]
+mod worked;

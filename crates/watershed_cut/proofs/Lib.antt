@@ -7,3 +7,7 @@ pub mod Quiet
 pub mod PlateauLaws
 pub mod PlateauKeys
 pub mod LabelLemmas
+pub mod Hits
+pub mod Counting
+pub mod Star
+pub mod ForestLaws

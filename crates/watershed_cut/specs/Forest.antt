@@ -1,8 +1,8 @@
 -- The least forest that is rooted in the minima (Cousty and others, Watershed Cuts, 2009), by edges in order of rank.
-use Rattle.std.specs.Prelude.{ℕ, Bool, not, ◌&&◌, ◌⊎◌, List, ◌++◌, filter}
+use Rattle.std.specs.Prelude.{◌≡◌, ℕ, Bool, true, not, ◌&&◌, ◌⊎◌, List, ◌++◌, filter}
 use Rattle.std.specs.List.{range_with_len, list_any}
 use Rattle.hg_base.specs.Graph.{WeightedGraph}
-use Rattle.hg_base.specs.Edges.{ListedEdge, EdgeList, IsIn, Joined, joined, below, is_joining, joins}
+use Rattle.hg_base.specs.Edges.{ListedEdge, EdgeList, IsIn, AreApart, Joined, joined, below, is_joining, joins}
 use Rattle.hg_base.specs.Rank.{numbers, ranked}
 use Rattle.watershed_cut.specs.Minima.{IsMinimumEdge, InMinimum}
 use Rattle.watershed_cut.specs.MinimumTests.{is_minimum, minimum_edges, in_minimum}
@@ -33,3 +33,9 @@ trees n s = filter (is_forest n s) s ++ minimum_edges s
 -- the numbers of a graph's forest edges, rising
 abbrev pub forest : WeightedGraph → List ℕ
 forest g = filter (λ e. is_forest g.n (ranked g) (numbered g e)) (numbers g)
+
+-- f is a list of the forest edges of s, each once
+pub record IsForestList (n : ℕ) (s f : EdgeList) : Type 0 where
+  pub apart : AreApart f
+  pub forest : (e : ListedEdge) → IsIn e f → IsIn e s × (is_forest n s e ≡ true)
+  pub all : (e : ListedEdge) → IsIn e s → is_forest n s e ≡ true → IsIn e f

@@ -1,9 +1,9 @@
 //! Laws of the definitions. Each is the contract of a function that does nothing.
-ghost use Rattle.std.specs.Prelude.{◌≡◌, ◌↔◌, ℕ, IsTrue};
-ghost use Rattle.hg_base.specs.Edges.{ListedEdge, EdgeList, IsIn};
+ghost use Rattle.std.specs.Prelude.{◌≡◌, ◌↔◌, ℕ, ◌<◌, ◌≤◌, not, ◌++◌, length, IsTrue};
+ghost use Rattle.hg_base.specs.Edges.{ListedEdge, EdgeList, IsIn, AreWithin, Joined, count_below};
 ghost use Rattle.watershed_cut.specs.Minima.{IsMinimumEdge, InMinimum, SameMinimum, IsHead};
-ghost use Rattle.watershed_cut.specs.MinimumTests.{is_minimum, in_minimum, same_minimum, is_head, vertex_label};
-ghost use Rattle.watershed_cut.specs.Forest.{Reaches, reaches, IsForestEdge, is_forest};
+ghost use Rattle.watershed_cut.specs.MinimumTests.{is_minimum, in_minimum, same_minimum, is_head, minimum_edges, vertex_label};
+ghost use Rattle.watershed_cut.specs.Forest.{Reaches, reaches, IsForestEdge, is_forest, IsForestList};
 
 /// The tests of minima say exactly what is said by walks, and the label 0 is that of what is in no minimum.
 pub fn minima_by_walks()
@@ -18,4 +18,14 @@ pub fn minima_by_walks()
 pub fn forest_by_walks()
     ensures reaches { (n : ℕ) (s : EdgeList) (k x : ℕ) → IsTrue (reaches n s k x) ↔ Reaches n s k x }
     ensures edges { (n : ℕ) (s : EdgeList) (e : ListedEdge) → IsIn e s → (IsTrue (is_forest n s e) ↔ IsForestEdge n s e) }
+{}
+
+/// Each vertex is joined to exactly one minimum by a list of forest edges and the minimum edges.
+pub fn trees_of_minima()
+    ensures reach { (n : ℕ) (s f : EdgeList) → AreWithin n s → IsForestList n s f → (x : ℕ) → x < n →
+        (y : ℕ) × (InMinimum n s y × Joined (f ++ minimum_edges s) x y) }
+    ensures one { (n : ℕ) (s f : EdgeList) → AreWithin n s → IsForestList n s f → (y z : ℕ) →
+        InMinimum n s y → InMinimum n s z → Joined (f ++ minimum_edges s) y z → SameMinimum n s y z }
+    ensures length { (n : ℕ) (s f : EdgeList) → 1 ≤ n → AreWithin n s → IsForestList n s f →
+        length f ≡ count_below (λ x. not (in_minimum n s x)) n }
 {}

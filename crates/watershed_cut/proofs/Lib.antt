@@ -11,3 +11,6 @@ pub mod Hits
 pub mod Counting
 pub mod Star
 pub mod ForestLaws
+pub mod GraphForest
+pub mod Cheapest
+pub mod LeastForest

@@ -94,12 +94,12 @@ spokes-free p r a (suc k) m low within =
     wider e (inr i) = (let u : e.u < a = (within e i).0 in omega arith, let v : e.v < a = (within e i).1 in omega arith)
 
 -- what is in the values of a function at a list
-in-map : {X Y : Type 0} (f : X → Y) (y : Y) (xs : List X) → IsIn y (map f xs) → (x : X) × (IsIn x xs × (f x ≡ y))
+pub in-map : {X Y : Type 0} (f : X → Y) (y : Y) (xs : List X) → IsIn y (map f xs) → (x : X) × (IsIn x xs × (f x ≡ y))
 in-map f y [] i = absurd i
 in-map f y (x ∷ xs) (inl same) = (x, (inl refl, same))
 in-map f y (x ∷ xs) (inr i) = let r = in-map f y xs i in (r.0, (inr r.1.0, r.1.1))
 
-map-in : {X Y : Type 0} (f : X → Y) (x : X) (xs : List X) → IsIn x xs → IsIn (f x) (map f xs)
+pub map-in : {X Y : Type 0} (f : X → Y) (x : X) (xs : List X) → IsIn x xs → IsIn (f x) (map f xs)
 map-in f x [] i = absurd i
 map-in f x (y ∷ ys) (inl same) = inl (ap f same)
 map-in f x (y ∷ ys) (inr i) = inr (map-in f x ys i)

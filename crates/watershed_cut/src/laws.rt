@@ -1,9 +1,11 @@
 //! Laws of the definitions. Each is the contract of a function that does nothing.
-ghost use Rattle.std.specs.Prelude.{◌≡◌, ◌↔◌, ℕ, ◌<◌, ◌≤◌, not, ◌++◌, length, IsTrue};
+ghost use Rattle.std.specs.Prelude.{◌≡◌, ◌↔◌, ℕ, ◌<◌, ◌≤◌, not, List, ◌++◌, length, IsTrue};
+ghost use Rattle.hg_base.specs.Graph.{WeightedGraph, IsGraph};
 ghost use Rattle.hg_base.specs.Edges.{ListedEdge, EdgeList, IsIn, AreWithin, Joined, count_below};
 ghost use Rattle.watershed_cut.specs.Minima.{IsMinimumEdge, InMinimum, SameMinimum, IsHead};
 ghost use Rattle.watershed_cut.specs.MinimumTests.{is_minimum, in_minimum, same_minimum, is_head, minimum_edges, vertex_label};
-ghost use Rattle.watershed_cut.specs.Forest.{Reaches, reaches, IsForestEdge, is_forest, IsForestList};
+ghost use Rattle.watershed_cut.specs.Forest.{Reaches, reaches, IsForestEdge, is_forest, IsForestList, forest};
+ghost use Rattle.watershed_cut.specs.Rooted.{IsRooted, cost};
 
 /// The tests of minima say exactly what is said by walks, and the label 0 is that of what is in no minimum.
 pub fn minima_by_walks()
@@ -28,4 +30,10 @@ pub fn trees_of_minima()
         InMinimum n s y → InMinimum n s z → Joined (f ++ minimum_edges s) y z → SameMinimum n s y z }
     ensures length { (n : ℕ) (s f : EdgeList) → 1 ≤ n → AreWithin n s → IsForestList n s f →
         length f ≡ count_below (λ x. not (in_minimum n s x)) n }
+{}
+
+/// The printed forest is rooted in the minima, and no forest that is rooted so weighs less.
+pub fn least_forest()
+    ensures rooted { (g : WeightedGraph) → IsGraph g → IsRooted g (forest g) }
+    ensures least { (g : WeightedGraph) → IsGraph g → (f : List ℕ) → IsRooted g f → cost g (forest g) ≤ cost g f }
 {}

@@ -14,3 +14,4 @@ pub mod ForestLaws
 pub mod GraphForest
 pub mod Cheapest
 pub mod LeastForest
+pub mod TreeLabels

@@ -6,7 +6,7 @@ mod minima;
 mod plateaus;
 mod report;
 
-pub use laws::{forest_by_walks, least_forest, minima_by_walks, trees_of_minima};
+pub use laws::{forest_by_walks, labels_of_trees, least_forest, minima_by_walks, trees_of_minima};
 pub use minima::Minima;
 pub use report::write_minima;
 

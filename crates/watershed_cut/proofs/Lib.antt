@@ -15,3 +15,5 @@ pub mod GraphForest
 pub mod Cheapest
 pub mod LeastForest
 pub mod TreeLabels
+pub mod NearestPasses
+pub mod ForestPasses

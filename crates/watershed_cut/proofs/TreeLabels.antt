@@ -1,30 +1,30 @@
 -- The labels of the trees: each vertex has the label of the one minimum to which forest and minimum edges join it.
-use Rattle.std.proofs.Common.{◌≡◌, ℕ, suc, ◌+◌, ◌<◌, ◌≤◌, Bool, true, false, cond, inl, inr, refl, sym, ◌∙◌, subst, ap, arith, List, [], ◌∷◌, ◌++◌, length}
-use Rattle.std.specs.Prelude.{◌↔◌, ◌==◌, not, ◌&&◌, Option, Some, None, filter, find, unwrap_or}
-use Rattle.std.specs.List.{range_with_len, list_any}
+use Rattle.std.proofs.Common.{◌≡◌, ℕ, suc, ◌<◌, ◌≤◌, Bool, true, false, cond, inl, inr, refl, sym, ◌∙◌, subst, ap, arith, List, [], ◌∷◌, length}
+use Rattle.std.specs.Prelude.{◌↔◌, ◌==◌, ◌&&◌, Option, Some, None, filter, find, unwrap_or}
+use Rattle.std.specs.List.{range_with_len}
 use Rattle.std.specs.Option.{is_some}
 use Rattle.std.proofs.lemmas.Bool.{cases_Bool, cases_order, both_ways, and_parts, and_from, false_from_ne_true, true≢false, eqb-true, eq-eqb, cond-true, not-true, not_from_false, ne_eqb, eqb-false}
 use Rattle.hg_base.specs.Graph.{WeightedGraph, IsGraph, first_end, second_end}
-use Rattle.hg_base.specs.Edges.{ListedEdge, EdgeList, IsIn, AreApart, AreWithin, Joined, joined, count_below, is_least}
+use Rattle.hg_base.specs.Edges.{ListedEdge, EdgeList, IsIn, AreApart, AreWithin, Joined, joined, count_below}
 use Rattle.hg_base.specs.Labels.{IsLabel, least_of}
 use Rattle.hg_base.specs.Rank.{ranked}
 use Rattle.hg_base.proofs.Components.{IsIn-append}
 use Rattle.hg_base.proofs.CountMore.{count_below-step}
 use Rattle.hg_base.proofs.Counts.{is_least-from}
 use Rattle.hg_base.proofs.Drops.{holds}
-use Rattle.hg_base.proofs.Leasts.{FirstOf, first_of, IsLeastIn, least_of-is, least_of-most, least_of-agree}
+use Rattle.hg_base.proofs.Leasts.{first_of, least_of-is, least_of-most, least_of-agree}
 use Rattle.hg_base.proofs.Members.{IsIn-filter, IsIn-kept}
 use Rattle.hg_base.proofs.Ranked.{AreApart-ranked, AreWithin-ranked, ends-within}
 use Rattle.hg_base.proofs.Sets.{same_test, joined-among}
 use Rattle.hg_base.proofs.Walks.{IsSame-joined, Joined-joined}
-use Rattle.watershed_cut.specs.Minima.{InMinimum, SameMinimum}
+use Rattle.watershed_cut.specs.Minima.{InMinimum}
 use Rattle.watershed_cut.specs.MinimumTests.{minimum_edges, in_minimum, same_minimum, is_head, minimum_count, vertex_label}
 use Rattle.watershed_cut.specs.Forest.{is_forest, trees, IsForestList}
 use Rattle.watershed_cut.specs.Watershed.{reaches_label, tree_label, is_cut}
 use Rattle.watershed_cut.proofs.AnyIn.{any-from, any-to, range-to, range-from}
 use Rattle.watershed_cut.proofs.ForestLaws.{forest-reach, forest-one}
 use Rattle.watershed_cut.proofs.ForestWalks.{label-zero}
-use Rattle.watershed_cut.proofs.MinimumWalks.{in_minimum-to, in_minimum-from, same_minimum-to, same_minimum-from}
+use Rattle.watershed_cut.proofs.MinimumWalks.{in_minimum-to, in_minimum-from, same_minimum-from}
 
 -- the parts of the test of two vertices in one minimum
 same-parts : (n : ℕ) (s : EdgeList) (x y : ℕ) → same_minimum n s x y ≡ true → (in_minimum n s x ≡ true) × ((in_minimum n s y ≡ true) × (joined (minimum_edges s) x y ≡ true))

@@ -19,12 +19,12 @@ use Rattle.watershed_cut.proofs.Star.{in-map}
 
 -- what is read is in the list
 in-slice : {X : Type 0} (xs : List X) (k : ℕ) (x : X) → slice_get xs k ≡ Some x → IsIn x xs
-in-slice [] k x h = absurd (true≢false (sym (ap is_some h)))
-in-slice (y ∷ ys) zero x h = inl (same_Some y x h)
+in-slice {X} [] k x h = absurd (true≢false (sym (ap is_some h)))
+in-slice {X} (y ∷ ys) zero x h = inl (same_Some y x h)
   where
     same_Some : (a b : X) → Some a ≡ Some b → a ≡ b
     same_Some a b e = ap (λ (o : Option X). unwrap_or o a) e
-in-slice (y ∷ ys) (suc k) x h = inr (in-slice ys k x h)
+in-slice {X} (y ∷ ys) (suc k) x h = inr (in-slice ys k x h)
 
 -- the maker of a node of a graph's tree is the number of an edge
 pub maker-below : (g : WeightedGraph) (t : ParentTree) (k r : ℕ) → t ≡ graph_tree g → slice_get t.makers k ≡ Some r → r < length g.edges

@@ -17,3 +17,7 @@ pub mod LeastForest
 pub mod TreeLabels
 pub mod NearestPasses
 pub mod ForestPasses
+pub mod NearLaws
+pub mod NodeLabels
+pub mod FilterPasses
+pub mod WatershedLemmas

@@ -66,9 +66,18 @@ pub(crate) fn vertex_labels(
     let nodes = node_labels(alloc, graph, tree, minima, near)?;
     let mut labels = Vec::with_capacity(alloc, tree.leaves() as usize)?;
     for x in 0..tree.leaves() {
-        labels.push(nodes[near[x as usize] as usize])?;
+        labels.push(nearest_label(&nodes, near, x))?;
     }
     Ok(labels)
+}
+
+// The label of the nearest node of vertex x.
+fn nearest_label(nodes: &[u32], near: &[u32], x: u32) -> u32
+    requires within { x < length near.now }
+    requires node { get_or near.now x 0 < length nodes.now }
+    ensures { result ≡ get_or nodes.now (get_or near.now x 0) 0 }
+{
+    nodes[near[x as usize] as usize]
 }
 
 // The label of each node: that of a leaf is its own, and that of another the one of the nearest node of an end that is

@@ -1,5 +1,4 @@
 use Rattle.std.proofs.Common.{◌≡◌, ◌+◌, ◌-◌, ◌<◌, ℕ, sym, subst, arith, length, true, false}
-use Rattle.std.proofs.lemmas.Bool.{not-true, not-false}
 use Rattle.partition_tree.proofs.ForestClimbs.{forest-climbs}
 use Rattle.watershed_cut.proofs.NearestPasses.{AreNearestFrom, nearest-first, nearest-self, nearest-parent}
 use Rattle.watershed_cut.proofs.nearest.send_nearest.Goals as goal
@@ -13,7 +12,7 @@ loop-i-preserved c =
     let e : c.loop-i.i ≡ c.loop-i.i - 1 + 1 = omega arith in
     let low : c.loop-i.i - 1 < length t.parents = omega (arith, c.loop-i.auto.i, c.nodes-i.ensures.value) in
     nearest-self t (forest-climbs t c.nodes-i.ensures.forest) c.args.minima.now.vertices c.args.holds.now (c.loop-i.i - 1) c.loop-i.near c.requires.holds low
-    (subst (λ (n : ℕ). AreNearestFrom t c.args.minima.now.vertices n c.loop-i.near) e c.loop-i.invariant) (not-false _ c.if-not-holds-i.false)
+    (subst (λ (n : ℕ). AreNearestFrom t c.args.minima.now.vertices n c.loop-i.near) e c.loop-i.invariant) c.if-not-holds-i.false
 
 pub loop-i-preserved-then-not-holds-i : goal.loop-i-preserved-then-not-holds-i
 loop-i-preserved-then-not-holds-i c =
@@ -21,4 +20,4 @@ loop-i-preserved-then-not-holds-i c =
     let e : c.loop-i.i ≡ c.loop-i.i - 1 + 1 = omega arith in
     let low : c.loop-i.i - 1 < length t.parents = omega (arith, c.loop-i.auto.i, c.nodes-i.ensures.value) in
     nearest-parent t (forest-climbs t c.nodes-i.ensures.forest) c.args.minima.now.vertices c.args.holds.now (c.loop-i.i - 1) c.parent.result c.loop-i.near c.requires.holds low c.parent.ensures.value
-    (subst (λ (n : ℕ). AreNearestFrom t c.args.minima.now.vertices n c.loop-i.near) e c.loop-i.invariant) (not-true _ c.if-not-holds-i.true)
+    (subst (λ (n : ℕ). AreNearestFrom t c.args.minima.now.vertices n c.loop-i.near) e c.loop-i.invariant) c.if-not-holds-i.true

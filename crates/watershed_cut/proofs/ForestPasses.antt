@@ -1,7 +1,6 @@
 -- The passes that choose the forest's edges and label the nodes.
-use Rattle.std.proofs.Common.{◌≡◌, ℕ, zero, suc, ◌+◌, ◌-◌, ◌<◌, ◌≤◌, Bool, true, false, cond, inl, inr, refl, sym, ◌∙◌, subst, ap, arith, List, [], ◌∷◌, ◌++◌, length, length-set, get_or, set, replicate, map}
-use Rattle.std.specs.Prelude.{◌==◌, not, Option, Some, None, slice_get, unwrap_or, filter}
-use Rattle.std.specs.List.{range_with_len}
+use Rattle.std.proofs.Common.{◌≡◌, ℕ, zero, suc, ◌+◌, ◌-◌, ◌<◌, ◌≤◌, Bool, true, false, inl, inr, refl, sym, ◌∙◌, subst, ap, arith, List, [], ◌∷◌, length, length-set, get_or, set, replicate}
+use Rattle.std.specs.Prelude.{Option, Some, slice_get, unwrap_or}
 use Rattle.std.specs.Option.{is_some}
 use Rattle.std.proofs.lemmas.Bool.{cases_eq, true≢false}
 use Rattle.std.proofs.lemmas.List.{get_or-set_same, get_or-set_other}
@@ -13,7 +12,6 @@ use Rattle.hg_base.specs.Zones.{maker}
 use Rattle.hg_base.proofs.Ranked.{ranked-at}
 use Rattle.hg_base.proofs.Ranks.{number_at-below}
 use Rattle.hg_base.proofs.Sets.{IsIn-joins_kept}
-use Rattle.watershed_cut.specs.Passes.{HasTwoEnds}
 use Rattle.watershed_cut.specs.TreePasses.{makes_forest, AreChosen, held_end, AreLeafLabels, AreNodeLabels}
 use Rattle.watershed_cut.proofs.Star.{in-map}
 

@@ -1,23 +1,22 @@
 -- What the nearest nodes above vertices in minima say of the forest and of the labels of its trees.
-use Rattle.std.proofs.Common.{◌≡◌, ℕ, zero, suc, ◌+◌, ◌<◌, ◌≤◌, Bool, true, false, ◌⊎◌, inl, inr, refl, sym, ◌∙◌, subst, ap, arith, List, [], ◌∷◌, ◌++◌, length, get_or}
-use Rattle.std.specs.Prelude.{◌==◌, not, ◌&&◌, filter, nat_lt}
-use Rattle.std.proofs.lemmas.Bool.{cases_Bool, cases_lt, cases_order, both_ways, and_parts, and_cases, and_from, not-true, true_from_ne_false, false_from_ne_true, lt-ltb, ltb-true}
-use Rattle.hg_base.specs.Edges.{ListedEdge, EdgeList, IsIn, IsWalk, AreApart, AreWithin, Joined, joined, below, joins, is_joining}
-use Rattle.hg_base.specs.Tree.{ParentTree, IsAbove, tree_of, place}
-use Rattle.hg_base.proofs.Components.{rank_above, IsIn-append}
-use Rattle.hg_base.proofs.Fronts.{apart-one, joined-step_with, MeetBelow, joined-meet, joined-first_front}
+use Rattle.std.proofs.Common.{◌≡◌, ℕ, zero, suc, ◌+◌, ◌<◌, ◌≤◌, true, false, ◌⊎◌, inl, inr, refl, sym, ◌∙◌, subst, ap, arith, List, [], ◌∷◌, length, get_or}
+use Rattle.std.specs.Prelude.{not, ◌&&◌, filter, nat_lt}
+use Rattle.std.proofs.lemmas.Bool.{cases_Bool, cases_order, both_ways, and_parts, and_cases, true_from_ne_false, false_from_ne_true, lt-ltb, ltb-true}
+use Rattle.hg_base.specs.Edges.{ListedEdge, EdgeList, IsIn, IsWalk, AreApart, AreWithin, joined, below, joins, is_joining}
+use Rattle.hg_base.specs.Tree.{IsAbove, tree_of, place}
+use Rattle.hg_base.proofs.Components.{rank_above}
+use Rattle.hg_base.proofs.Fronts.{apart-one, joined-meet}
 use Rattle.hg_base.proofs.FrontOnce.{leaf_or_made, leaf-alone}
 use Rattle.hg_base.proofs.FrontTree.{above-made}
-use Rattle.hg_base.proofs.Link.{link_cases}
 use Rattle.hg_base.proofs.Meeting.{chain-leaving, place-less}
 use Rattle.hg_base.proofs.Members.{IsIn-below, IsIn-below_kept, IsIn-filter}
 use Rattle.hg_base.proofs.Paths.{made-above}
 use Rattle.hg_base.proofs.Sets.{same_test, IsIn-joins, IsIn-joins_kept, joined-among, joined_below-more}
-use Rattle.hg_base.proofs.Walks.{IsSame-joined, joined-ends, Joined-joined, joined-walk}
+use Rattle.hg_base.proofs.Walks.{IsSame-joined, joined-ends, Joined-joined}
 use Rattle.hg_base.proofs.Drops.{holds}
 use Rattle.watershed_cut.specs.Minima.{InMinimum}
-use Rattle.watershed_cut.specs.MinimumTests.{is_minimum, minimum_edges, in_minimum, vertex_label}
-use Rattle.watershed_cut.specs.Forest.{reaches, is_forest, trees}
+use Rattle.watershed_cut.specs.MinimumTests.{is_minimum, in_minimum, vertex_label}
+use Rattle.watershed_cut.specs.Forest.{reaches, is_forest}
 use Rattle.watershed_cut.specs.TreePasses.{Holds, IsNearest}
 use Rattle.watershed_cut.proofs.ForestWalks.{label-zero, reaches-to, reaches-from}
 use Rattle.watershed_cut.proofs.MinimumWalks.{minimum-to, in_minimum-to, in_minimum-from, joined-own, step-first, step-second}
@@ -34,12 +33,14 @@ joined-above n s h k x y hx hy j = elim (joined-meet s h k x y j) [
   | inl same ↦ (x, record { first = (0, refl); second = (0, sym same); before = λ e i le. omega arith })
   | inr m ↦
       let z = m.edge in
-      let low : z.rank < k = m.low in
-      (n + place s z, record {
-        first = made-above n s h x hx z m.first.member (chain-leaving s x z m.first);
-        second = made-above n s h y hy z m.second.member (chain-leaving s y z m.second);
-        before = λ e i le. let less = place-less s h z e (IsIn-joins s z m.first.member m.first.joining) i (omega arith) in omega (arith, less);
-      })
+      let low : z.rank < k = m.low in (
+        n + place s z,
+        record {
+          first = made-above n s h x hx z m.first.member (chain-leaving s x z m.first);
+          second = made-above n s h y hy z m.second.member (chain-leaving s y z m.second);
+          before = λ e i le. let less = place-less s h z e (IsIn-joins s z m.first.member m.first.joining) i (omega arith) in omega (arith, less);
+        },
+      )
 ]
 
 -- a node before that of e joins what is below it by edges of lower rank
@@ -99,14 +100,14 @@ nearest-before n s h within labels are e i x q hx near = same_test (nat_lt q (n 
 -- who reaches a minimum by rank k reaches it by any higher rank
 reaches-more : (n : ℕ) (s : EdgeList) (j k x : ℕ) → j ≤ k → reaches n s k x ≡ false → reaches n s j x ≡ false
 reaches-more n s j k x le off = false_from_ne_true (reaches n s j x) (λ t.
-  let y = reaches-to n s j x t in
-  both_ways _ off (reaches-from n s k x (y.0, (y.1.0, Joined-joined (below s k) x y.0 (joined_below-more s j k x y.0 le (holds (below s j) x y.0 y.1.1))))))
+    let y = reaches-to n s j x t in
+    both_ways _ off (reaches-from n s k x (y.0, (y.1.0, Joined-joined (below s k) x y.0 (joined_below-more s j k x y.0 le (holds (below s j) x y.0 y.1.1))))))
 
 -- nor does anyone who is joined to it
 pub reaches-along : (n : ℕ) (s : EdgeList) (k x y : ℕ) → joined (below s k) x y ≡ true → reaches n s k x ≡ false → reaches n s k y ≡ false
 reaches-along n s k x y j off = false_from_ne_true (reaches n s k y) (λ t.
-  let z = reaches-to n s k y t in
-  both_ways _ off (reaches-from n s k x (z.0, (z.1.0, Joined-joined (below s k) x z.0 ((IsSame-joined (below s k)).on x y z.0 j (holds (below s k) y z.0 z.1.1))))))
+    let z = reaches-to n s k y t in
+    both_ways _ off (reaches-from n s k x (z.0, (z.1.0, Joined-joined (below s k) x z.0 ((IsSame-joined (below s k)).on x y z.0 j (holds (below s k) y z.0 z.1.1))))))
 
 -- by forest edges all are joined that were joined before a rank without reaching a minimum
 abbrev AloneBelow : ℕ → EdgeList → ℕ → Type 0

@@ -1,8 +1,8 @@
 -- The passes that mark the nodes above vertices in minima, and find the nearest.
 use Rattle.std.proofs.Common.{◌≡◌, ℕ, zero, suc, ◌+◌, ◌<◌, ◌≤◌, Bool, true, false, ◌⊎◌, inl, inr, refl, sym, ◌∙◌, subst, ap, arith, List, length, length-set, get_or, set, replicate}
-use Rattle.std.specs.Prelude.{◌↔◌, ◌==◌, not}
+use Rattle.std.specs.Prelude.{◌==◌, not}
 use Rattle.std.specs.List.{range_with_len}
-use Rattle.std.proofs.lemmas.Bool.{cases_Bool, cases_eq, both_ways, true≢false, eqb-false, eqb-true, ne_eqb, eq-eqb, not-true, not_from_false}
+use Rattle.std.proofs.lemmas.Bool.{cases_eq, both_ways, true≢false, eqb-false, ne_eqb, not-true, not_from_false}
 use Rattle.std.proofs.lemmas.List.{get_or-set_same, get_or-set_other}
 use Rattle.std.proofs.lemmas.List.FromFn.{length-range_with_len, get_or-range_with_len}
 use Rattle.hg_base.specs.Tree.{ParentTree, parent, ancestor, IsAbove}
@@ -133,11 +133,11 @@ nearest-self t c labels holds i near marks hi a on = record {
   one_each = a.one_each;
   done = λ j from h. elim (from_or i j from) [
     | inl same ↦ subst (λ (m : ℕ). IsNearest t labels m (get_or near m 0)) same (subst (λ (q : ℕ). IsNearest t labels i q) (sym (a.left i (omega arith) hi)) (record {
-        node = hi;
-        above = (0, refl);
-        least = λ k b l. above-rises t c k i hi b;
-        holds = λ k b l. (marks.each i hi).0 on;
-      }))
+      node = hi;
+      above = (0, refl);
+      least = λ k b l. above-rises t c k i hi b;
+      holds = λ k b l. (marks.each i hi).0 on;
+    }))
     | inr later ↦ a.done j later h
   ];
   left = λ j l h. a.left j (omega arith) h;

@@ -1,11 +1,11 @@
 -- The labels of the nodes are those of the trees.
-use Rattle.std.proofs.Common.{◌≡◌, ℕ, zero, suc, ◌+◌, ◌-◌, ◌<◌, ◌≤◌, Bool, true, false, cond, ◌⊎◌, inl, inr, refl, sym, ◌∙◌, subst, ap, arith, List, [], ◌∷◌, ◌++◌, length, get_or, map}
-use Rattle.std.specs.Prelude.{◌==◌, not, ◌&&◌, Option, Some, unwrap_or, slice_get, filter, nat_lt}
-use Rattle.std.proofs.lemmas.Bool.{cases_Bool, both_ways, and_from, and_left, and_right, cond-true, cond-false, not_from_false, false_from_ne_true, ltb-true}
+use Rattle.std.proofs.Common.{◌≡◌, ℕ, zero, suc, ◌+◌, ◌-◌, ◌<◌, true, false, ◌⊎◌, inl, inr, refl, sym, ◌∙◌, subst, ap, arith, List, [], length, get_or}
+use Rattle.std.specs.Prelude.{Option, Some, unwrap_or, slice_get, filter, nat_lt}
+use Rattle.std.proofs.lemmas.Bool.{both_ways, and_from, and_left, and_right, cond-true, cond-false, not_from_false, false_from_ne_true, ltb-true}
 use Rattle.hg_base.specs.Graph.{WeightedGraph, first_end, second_end}
 use Rattle.hg_base.specs.Edges.{ListedEdge, EdgeList, IsIn, AreApart, AreWithin, joined, below, joins, is_joining}
 use Rattle.hg_base.specs.Rank.{ranked}
-use Rattle.hg_base.specs.Tree.{ParentTree, IsAbove, tree_of, graph_tree, place}
+use Rattle.hg_base.specs.Tree.{IsAbove, tree_of, graph_tree, place}
 use Rattle.hg_base.specs.Zones.{maker}
 use Rattle.hg_base.proofs.Components.{IsIn-append}
 use Rattle.hg_base.proofs.Fronts.{joined-step_with}
@@ -18,9 +18,8 @@ use Rattle.hg_base.proofs.TreeNodes.{made-within}
 use Rattle.hg_base.proofs.Ranked.{ranked-at, AreApart-ranked}
 use Rattle.hg_base.proofs.Sets.{IsIn-joins_kept, joined-among}
 use Rattle.hg_base.proofs.Walks.{IsSame-joined, joined-ends, Joined-joined}
-use Rattle.hg_base.proofs.Drops.{holds}
 use Rattle.watershed_cut.specs.Minima.{IsMinimumEdge, InMinimum}
-use Rattle.watershed_cut.specs.MinimumTests.{is_minimum, minimum_edges, vertex_label}
+use Rattle.watershed_cut.specs.MinimumTests.{is_minimum, minimum_edges}
 use Rattle.watershed_cut.specs.Forest.{reaches, is_forest, trees}
 use Rattle.watershed_cut.specs.TreePasses.{IsNearest, maker_first, maker_second, held_end, AreNodeLabels, AreNearest}
 use Rattle.watershed_cut.specs.Watershed.{tree_label}

@@ -1,8 +1,8 @@
 -- What the passes give is the watershed cut of the graph.
-use Rattle.std.proofs.Common.{◌≡◌, ℕ, suc, ◌+◌, ◌<◌, ◌≤◌, Bool, true, false, ◌⊎◌, inl, inr, refl, sym, ◌∙◌, subst, ap, arith, List, length, get_or, map}
+use Rattle.std.proofs.Common.{◌≡◌, ℕ, ◌+◌, ◌<◌, ◌≤◌, Bool, true, false, inl, inr, refl, sym, ◌∙◌, subst, ap, arith, List, length, get_or, map}
 use Rattle.std.specs.Prelude.{◌==◌, not, ◌&&◌, filter, nat_lt}
 use Rattle.std.specs.List.{range_with_len}
-use Rattle.std.proofs.lemmas.Bool.{cases_Bool, both_ways, and_parts, cond-true, cond-false, ne_eqb, eq-eqb}
+use Rattle.std.proofs.lemmas.Bool.{cases_Bool, and_parts, cond-true, cond-false, ne_eqb, eq-eqb}
 use Rattle.std.proofs.lemmas.List.FromFn.{length-map-range_with_len, get_or-map-range_with_len}
 use Rattle.hg_base.specs.Graph.{WeightedGraph, first_end, second_end}
 use Rattle.hg_base.specs.Edges.{ListedEdge, EdgeList, IsIn, AreApart, AreWithin, joins, is_joining}

@@ -16,6 +16,5 @@ pub use laws::{forest_by_walks, labels_of_trees, least_forest, minima_by_walks, 
 pub use minima::Minima;
 pub use report::{write_minima, write_watershed};
 
-
 #[cfg(test)]
 mod worked;

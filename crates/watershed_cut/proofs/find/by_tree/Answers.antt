@@ -1,6 +1,5 @@
-use Rattle.std.proofs.Common.{List, ℕ, ◌∙◌, ap}
+use Rattle.std.proofs.Common.{◌∙◌, ap}
 use Rattle.hg_base.specs.Labels.{Labelling}
-use Rattle.watershed_cut.specs.Watershed.{WatershedCut}
 use Rattle.watershed_cut.proofs.WatershedLemmas.{minima-lengths, watershed-found}
 use Rattle.watershed_cut.proofs.find.by_tree.Goals as goal
 

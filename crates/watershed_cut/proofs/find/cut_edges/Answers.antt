@@ -1,4 +1,4 @@
-use Rattle.std.proofs.Common.{◌≡◌, ◌<◌, ◌+◌, ℕ, Bool, inl, inr, sym, subst, ◌∙◌, ap, arith, get_or}
+use Rattle.std.proofs.Common.{ℕ, Bool, inl, inr, sym, subst, ◌∙◌, ap, arith, get_or}
 use Rattle.std.specs.Prelude.{◌==◌, not}
 use Rattle.std.proofs.lemmas.Bool.{cases_eq}
 use Rattle.hg_base.specs.Graph.{first_end, second_end}

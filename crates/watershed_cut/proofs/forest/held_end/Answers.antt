@@ -1,4 +1,3 @@
-use Rattle.std.proofs.Common.{◌-◌}
 use Rattle.watershed_cut.proofs.ForestPasses.{maker-below}
 use Rattle.watershed_cut.proofs.forest.held_end.Goals as goal
 

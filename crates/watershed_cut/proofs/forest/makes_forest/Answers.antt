@@ -1,4 +1,4 @@
-use Rattle.std.proofs.Common.{◌≡◌, ◌<◌, ◌∙◌, ℕ, sym, subst, ap, arith, length}
+use Rattle.std.proofs.Common.{◌≡◌, ◌<◌, ℕ, sym, subst, arith, length}
 use Rattle.watershed_cut.proofs.ForestPasses.{maker-below, maker-is}
 use Rattle.watershed_cut.proofs.forest.makes_forest.Goals as goal
 

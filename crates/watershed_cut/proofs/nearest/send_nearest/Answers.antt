@@ -1,4 +1,4 @@
-use Rattle.std.proofs.Common.{◌≡◌, ◌+◌, ◌-◌, ◌<◌, ℕ, sym, subst, arith, length, true, false}
+use Rattle.std.proofs.Common.{◌≡◌, ◌+◌, ◌-◌, ◌<◌, ℕ, subst, arith, length}
 use Rattle.partition_tree.proofs.ForestClimbs.{forest-climbs}
 use Rattle.watershed_cut.proofs.NearestPasses.{AreNearestFrom, nearest-first, nearest-self, nearest-parent}
 use Rattle.watershed_cut.proofs.nearest.send_nearest.Goals as goal

@@ -1,4 +1,4 @@
-use Rattle.std.proofs.Common.{◌≡◌, ◌+◌, ◌<◌, ◌≤◌, ℕ, Bool, List, true, false, sym, subst, arith, length, get_or}
+use Rattle.std.proofs.Common.{◌+◌, ◌<◌, Bool, List, sym, subst, arith, length}
 use Rattle.partition_tree.proofs.ForestClimbs.{forest-climbs, forest-leaves}
 use Rattle.watershed_cut.proofs.NearestPasses.{AreSentUp, sent_up-same, sent_up-more, sent_up-all}
 use Rattle.watershed_cut.proofs.nearest.send_up.Goals as goal

@@ -1,23 +1,23 @@
 -- The forest edges and the minimum edges: each vertex reaches exactly one minimum, over as many forest edges as there are
 -- vertices in no minimum.
-use Rattle.std.proofs.Common.{◌≡◌, ℕ, zero, suc, ◌+◌, ◌<◌, ◌≤◌, Bool, true, false, cond, ◌⊎◌, inl, inr, refl, sym, ◌∙◌, subst, ap, arith, List, [], ◌∷◌, ◌++◌, length}
+use Rattle.std.proofs.Common.{◌≡◌, ℕ, zero, suc, ◌+◌, ◌<◌, ◌≤◌, Bool, true, false, cond, ◌⊎◌, inl, inr, refl, ◌∙◌, subst, ap, arith, [], ◌∷◌, ◌++◌, length}
 use Rattle.std.specs.Prelude.{not, ◌&&◌, filter, nat_lt}
-use Rattle.std.proofs.lemmas.Bool.{cases_Bool, cases_order, both_ways, and_parts, and_cases, and_from, not-true, false_from_ne_true, true_from_ne_false}
-use Rattle.hg_base.specs.Edges.{ListedEdge, EdgeList, IsIn, AreApart, AreWithin, Joined, joined, below, is_joining, in_order, placed_by_rank, count_below, components}
+use Rattle.std.proofs.lemmas.Bool.{cases_Bool, both_ways, and_parts, and_cases, and_from, not-true, false_from_ne_true, true_from_ne_false}
+use Rattle.hg_base.specs.Edges.{ListedEdge, EdgeList, IsIn, AreWithin, Joined, joined, below, is_joining, in_order, placed_by_rank, count_below, components}
 use Rattle.hg_base.specs.Rising.{IsRising}
 use Rattle.hg_base.proofs.Components.{IsIn-append, IsIn-append_back}
 use Rattle.hg_base.proofs.Link.{link_cases}
-use Rattle.hg_base.proofs.Members.{IsIn-filter, IsIn-kept, IsIn-below, IsIn-below_kept, IsSameSet-in_order, IsRising-in_order}
+use Rattle.hg_base.proofs.Members.{IsIn-filter, IsIn-below, IsIn-below_kept, IsSameSet-in_order, IsRising-in_order}
 use Rattle.hg_base.proofs.Sets.{joined-among}
 use Rattle.hg_base.proofs.Walks.{IsSame-joined, joined-ends, Joined-joined}
 use Rattle.hg_base.proofs.Drops.{holds}
 use Rattle.watershed_cut.specs.Minima.{InMinimum, SameMinimum}
 use Rattle.watershed_cut.specs.MinimumTests.{is_minimum, minimum_edges, in_minimum}
 use Rattle.watershed_cut.specs.Forest.{reaches, is_forest, IsForestList}
-use Rattle.watershed_cut.proofs.Counting.{pile, pile-from, pile-to, IsFree, free-count, components-one}
+use Rattle.watershed_cut.proofs.Counting.{pile, pile-from, IsFree, free-count, components-one}
 use Rattle.watershed_cut.proofs.ForestWalks.{reaches-to, reaches-from}
 use Rattle.watershed_cut.proofs.Hits.{joined_into, Meets, hits}
-use Rattle.watershed_cut.proofs.MinimumWalks.{minimum-to, same_minimum-to, in_minimum-to, in_minimum-from, minimum_edges-to, minimum_edges-from}
+use Rattle.watershed_cut.proofs.MinimumWalks.{minimum-to, same_minimum-to, in_minimum-to, in_minimum-from, minimum_edges-to}
 use Rattle.watershed_cut.proofs.Star.{IsStar, minimum-reached, star-found}
 
 -- a list of which each edge is one of lower rank, or one of k
@@ -51,12 +51,12 @@ forest-not_both n s e f u v =
 -- early edges don't join its ends
 pub forest-new : (n : ℕ) (s k : EdgeList) (e : ListedEdge) (m : EdgeList) → JoinsMinima n s k → is_forest n s e ≡ true → AreEarly s k e.rank m → joined m e.u e.v ≡ false
 forest-new n s k e m kind f early = false_from_ne_true (joined m e.u e.v) (λ j.
-  let p = and_parts (is_joining s e) (not (is_minimum s e) && not (reaches n s e.rank e.u && reaches n s e.rank e.v)) f in
-  let w = Joined-joined (below s e.rank ++ k) e.u e.v (joined-among m (below s e.rank ++ k) e.u e.v early j) in
-  elim (hits (λ z. in_minimum n s z ≡ true) (below s e.rank) k kind e.u w.0 e.v w.1) [
-    | inl on ↦ both_ways _ (not-true _ p.0) on
-    | inr h ↦ forest-not_both n s e f (meets-reaches n s e.rank e.u h.0) (meets-reaches n s e.rank e.v h.1)
-  ])
+    let p = and_parts (is_joining s e) (not (is_minimum s e) && not (reaches n s e.rank e.u && reaches n s e.rank e.v)) f in
+    let w = Joined-joined (below s e.rank ++ k) e.u e.v (joined-among m (below s e.rank ++ k) e.u e.v early j) in
+    elim (hits (λ z. in_minimum n s z ≡ true) (below s e.rank) k kind e.u w.0 e.v w.1) [
+      | inl on ↦ both_ways _ (not-true _ p.0) on
+      | inr h ↦ forest-not_both n s e f (meets-reaches n s e.rank e.u h.0) (meets-reaches n s e.rank e.v h.1)
+    ])
 
 -- a rising list of forest edges stays early, edge after edge
 early-more : (s k : EdgeList) (e : ListedEdge) (f m : EdgeList) → IsIn e s → IsRising (e ∷ f) → ((g : ListedEdge) → IsIn g (e ∷ f) → AreEarly s k g.rank m) → (g : ListedEdge) → IsIn g f → AreEarly s k g.rank (e ∷ m)

@@ -2,21 +2,21 @@
 use Rattle.std.proofs.Common.{◌≡◌, ℕ, zero, suc, ◌+◌, ◌<◌, ◌≤◌, Bool, true, false, cond, inl, inr, refl, sym, ◌∙◌, subst, ap, arith, List, [], ◌∷◌, ◌++◌, length, get_or, map, All}
 use Rattle.std.specs.Prelude.{◌==◌, not, ◌&&◌, filter}
 use Rattle.std.specs.List.{IsDistinct, AllByRecursion, range_with_len}
-use Rattle.std.proofs.lemmas.Bool.{cases_Bool, both_ways, and_parts, not-true, false_from_ne_true, ne_eqb}
+use Rattle.std.proofs.lemmas.Bool.{both_ways, and_parts, not-true, ne_eqb}
 use Rattle.std.proofs.lemmas.List.{length-map}
 use Rattle.hg_base.specs.Graph.{WeightedGraph, IsGraph}
-use Rattle.hg_base.specs.Edges.{ListedEdge, EdgeList, IsIn, AreApart, AreWithin, Joined, joined, is_joining}
-use Rattle.hg_base.specs.Rank.{numbers, number_at, rank, listed, ranked}
+use Rattle.hg_base.specs.Edges.{ListedEdge, EdgeList, IsIn, AreApart, AreWithin, is_joining}
+use Rattle.hg_base.specs.Rank.{numbers, number_at, listed, ranked}
 use Rattle.hg_base.proofs.Drops.{holds}
 use Rattle.hg_base.proofs.Members.{IsIn-filter, IsIn-kept}
 use Rattle.hg_base.proofs.Ranked.{ranked-at, IsIn-ranked, AreWithin-ranked}
 use Rattle.hg_base.proofs.Ranks.{number_at-below, rank-number_at, rank-injective}
 use Rattle.hg_base.proofs.Walks.{IsSame-joined, Joined-joined}
-use Rattle.watershed_cut.specs.Minima.{IsMinimumEdge, InMinimum, SameMinimum}
+use Rattle.watershed_cut.specs.Minima.{IsMinimumEdge}
 use Rattle.watershed_cut.specs.MinimumTests.{is_minimum, minimum_edges}
 use Rattle.watershed_cut.specs.MinimumLabels.{numbered}
 use Rattle.watershed_cut.specs.Forest.{reaches, is_forest, IsForestList, forest}
-use Rattle.watershed_cut.specs.Rooted.{planted, outside_count, IsRooted}
+use Rattle.watershed_cut.specs.Rooted.{IsRooted}
 use Rattle.watershed_cut.proofs.AnyIn.{range-to, range-from}
 use Rattle.watershed_cut.proofs.ForestLaws.{forest-reach, forest-one, forest-long}
 use Rattle.watershed_cut.proofs.MinimumWalks.{minimum-from}
@@ -71,11 +71,11 @@ range-distinct p a (suc k) =
   where
     new : AllByRecursion (λ y. (a == y) ≡ false) (filter p (range_with_len (a + 1) k))
     new = by_recursion a (filter p (range_with_len (a + 1) k)) (λ y i.
-      let at = range-to (a + 1) k y (IsIn-kept p y (range_with_len (a + 1) k) i).1 in
-      let low : a + 1 ≤ y = at.0 in ne_eqb a y (λ same. omega arith))
+        let at = range-to (a + 1) k y (IsIn-kept p y (range_with_len (a + 1) k) i).1 in
+        let low : a + 1 ≤ y = at.0 in ne_eqb a y (λ same. omega arith))
 
 -- the edge at its rank is the edge by its number
-ranked-numbered : (g : WeightedGraph) (e : ListedEdge) → IsIn e (ranked g) → (i : ℕ) × ((i < length g.edges) × (numbered g i ≡ e))
+pub ranked-numbered : (g : WeightedGraph) (e : ListedEdge) → IsIn e (ranked g) → (i : ℕ) × ((i < length g.edges) × (numbered g i ≡ e))
 ranked-numbered g e m =
     let at = ranked-at g e m in
     let low : e.rank < length g.edges = at.0 in

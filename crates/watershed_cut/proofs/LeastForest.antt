@@ -1,7 +1,7 @@
 -- No forest that is rooted in the minima weighs less than the printed one.
-use Rattle.std.proofs.Common.{◌≡◌, ℕ, suc, ◌+◌, ◌<◌, ◌≤◌, Bool, true, false, cond, ◌⊎◌, inl, inr, refl, sym, ◌∙◌, subst, ap, arith, List, [], ◌∷◌, ◌++◌, length, map, All}
+use Rattle.std.proofs.Common.{◌≡◌, ℕ, suc, ◌+◌, ◌<◌, ◌≤◌, Bool, true, false, cond, ◌⊎◌, inl, inr, refl, sym, ◌∙◌, subst, arith, List, [], ◌∷◌, ◌++◌, length, map}
 use Rattle.std.specs.Prelude.{not, filter, nat_le}
-use Rattle.std.proofs.lemmas.Bool.{cases_Bool, le-leb, leb-true, not_from_false, not_from_true}
+use Rattle.std.proofs.lemmas.Bool.{cases_Bool, le-leb, leb-true, not_from_false}
 use Rattle.std.proofs.lemmas.List.{length-map}
 use Rattle.hg_base.specs.Graph.{WeightedGraph, IsGraph, weight}
 use Rattle.hg_base.specs.Edges.{ListedEdge, EdgeList, IsIn, AreWithin, Joined, joined, count_below, components}

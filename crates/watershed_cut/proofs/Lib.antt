@@ -14,3 +14,10 @@ pub mod ForestLaws
 pub mod GraphForest
 pub mod Cheapest
 pub mod LeastForest
+pub mod TreeLabels
+pub mod NearestPasses
+pub mod ForestPasses
+pub mod NearLaws
+pub mod NodeLabels
+pub mod FilterPasses
+pub mod WatershedLemmas

@@ -2,15 +2,15 @@
 use Rattle.std.proofs.Common.{◌≡◌, ℕ, zero, suc, ◌+◌, ◌-◌, ◌<◌, ◌≤◌, Bool, true, false, cond, ◌⊎◌, inl, inr, refl, sym, ◌∙◌, subst, ap, arith, List, [], ◌∷◌, length, map}
 use Rattle.std.specs.Prelude.{not, filter}
 use Rattle.std.specs.List.{range_with_len}
-use Rattle.std.proofs.lemmas.Bool.{cases_Bool, cases_lt, cases_order, both_ways, true≢false, false_from_ne_true}
+use Rattle.std.proofs.lemmas.Bool.{cases_Bool, cases_lt, cases_order, both_ways, false_from_ne_true}
 use Rattle.std.proofs.lemmas.List.{length-map}
-use Rattle.hg_base.specs.Edges.{ListedEdge, EdgeList, IsIn, AreWithin, Joined, joined, count_below, components}
+use Rattle.hg_base.specs.Edges.{ListedEdge, EdgeList, IsIn, AreWithin, joined, count_below, components}
 use Rattle.hg_base.proofs.Counts.{LeastBelow, least_below, count_below-zero}
 use Rattle.hg_base.proofs.Members.{IsIn-kept, IsIn-filter}
 use Rattle.hg_base.proofs.Sets.{joined-among}
 use Rattle.hg_base.proofs.Walks.{IsSame-joined, joined-ends, Joined-joined}
 use Rattle.hg_base.proofs.Drops.{holds}
-use Rattle.watershed_cut.specs.Minima.{level, IsEnd, IsMinimumEdge, HasNoEdge, InMinimum}
+use Rattle.watershed_cut.specs.Minima.{level, IsMinimumEdge, HasNoEdge, InMinimum}
 use Rattle.watershed_cut.specs.MinimumTests.{in_minimum}
 use Rattle.watershed_cut.proofs.AnyIn.{range-to, range-from}
 use Rattle.watershed_cut.proofs.Counting.{pile, pile-from, pile-to, IsFree, free-count, components-none, count-from, count-not}

@@ -1,11 +1,14 @@
 //! Laws of the definitions. Each is the contract of a function that does nothing.
 ghost use Rattle.std.specs.Prelude.{◌≡◌, ◌↔◌, ℕ, ◌<◌, ◌≤◌, not, List, ◌++◌, length, IsTrue};
-ghost use Rattle.hg_base.specs.Graph.{WeightedGraph, IsGraph};
-ghost use Rattle.hg_base.specs.Edges.{ListedEdge, EdgeList, IsIn, AreWithin, Joined, count_below};
+ghost use Rattle.hg_base.specs.Graph.{WeightedGraph, IsGraph, first_end, second_end};
+ghost use Rattle.hg_base.specs.Labels.{IsLabel};
+ghost use Rattle.hg_base.specs.Rank.{ranked};
+ghost use Rattle.hg_base.specs.Edges.{ListedEdge, EdgeList, IsIn, AreApart, AreWithin, Joined, count_below};
 ghost use Rattle.watershed_cut.specs.Minima.{IsMinimumEdge, InMinimum, SameMinimum, IsHead};
-ghost use Rattle.watershed_cut.specs.MinimumTests.{is_minimum, in_minimum, same_minimum, is_head, minimum_edges, vertex_label};
-ghost use Rattle.watershed_cut.specs.Forest.{Reaches, reaches, IsForestEdge, is_forest, IsForestList, forest};
+ghost use Rattle.watershed_cut.specs.MinimumTests.{is_minimum, in_minimum, same_minimum, is_head, minimum_edges, minimum_count, vertex_label};
+ghost use Rattle.watershed_cut.specs.Forest.{Reaches, reaches, IsForestEdge, is_forest, trees, IsForestList, forest};
 ghost use Rattle.watershed_cut.specs.Rooted.{IsRooted, cost};
+ghost use Rattle.watershed_cut.specs.Watershed.{tree_label, is_cut};
 
 /// The tests of minima say exactly what is said by walks, and the label 0 is that of what is in no minimum.
 pub fn minima_by_walks()
@@ -36,4 +39,16 @@ pub fn trees_of_minima()
 pub fn least_forest()
     ensures rooted { (g : WeightedGraph) → IsGraph g → IsRooted g (forest g) }
     ensures least { (g : WeightedGraph) → IsGraph g → (f : List ℕ) → IsRooted g f → cost g (forest g) ≤ cost g f }
+{}
+
+/// Each vertex has the label of the one minimum to which the trees join it, so none has 0, and two have one label
+/// exactly where they are in one tree. The cut holds exactly the edges that lead from tree to tree.
+pub fn labels_of_trees()
+    ensures label { (n : ℕ) (s : EdgeList) → AreApart s → AreWithin n s → (x y : ℕ) → InMinimum n s y → Joined (trees n s) x y →
+        tree_label n s x ≡ vertex_label n s y }
+    ensures range { (n : ℕ) (s : EdgeList) → AreApart s → AreWithin n s → (x : ℕ) → x < n → IsLabel (minimum_count n s) (tree_label n s x) }
+    ensures same { (n : ℕ) (s : EdgeList) → AreApart s → AreWithin n s → (x y : ℕ) → x < n → y < n →
+        ((tree_label n s x ≡ tree_label n s y) ↔ Joined (trees n s) x y) }
+    ensures cut { (g : WeightedGraph) → IsGraph g → (e : ℕ) → e < length g.edges →
+        (IsTrue (is_cut g e) ↔ (¬ Joined (trees g.n (ranked g)) (first_end g e) (second_end g e))) }
 {}

@@ -10,6 +10,7 @@ mod numbering;
 mod planned;
 mod report;
 mod tree;
+mod turns;
 
 pub use laws::{tree_is_a_forest, tree_under_other_names};
 pub use list::Ranked;

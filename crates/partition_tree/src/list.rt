@@ -3,13 +3,14 @@ ghost use Rattle.std.specs.List.{range_with_len};
 ghost use Rattle.hg_base.specs.Tree.{tree_of, IsFrontTree};
 ghost use Rattle.node_region.specs.Pool.{IsUsed, count, leaf_of};
 ghost use Rattle.border_climb.specs.Stands.{Stands};
-ghost use Rattle.partition_tree.specs.Ranked.{IsRankedList, edge_at, edges_of, first_edges};
+ghost use Rattle.partition_tree.specs.Ranked.{IsRankedList, edge_at, edges_of};
 ghost use Rattle.border_climb.specs.Splicing.{rank_of};
 ghost use Rattle.partition_tree.specs.Numbering.{AreCells, AreMakers, node_above};
 
 use crate::forest::Forest;
 use crate::numbering::{Numbering, node_or};
 use crate::tree::Tree;
+use crate::turns::turns;
 use border_climb::Part;
 use hg_base::{OutOfMemory, PlacedEdge};
 use std::alloc::{AllocError, Global};
@@ -42,12 +43,14 @@ fn part_of(alloc: Global, n: u32, list: &[Ranked]) -> Result<Part, OutOfMemory>
     requires { IsRankedList n list.now }
     ensures first { IfOk result (λ part. part.region.first ≡ 0) }
     ensures count { IfOk result (λ part. count part.region ≡ n) }
-    ensures stands { IfOk result (λ part. Stands part (first_edges list.now (length list.now))) }
+    ensures stands { IfOk result (λ part. Stands part (edges_of list.now)) }
 {
     let mut part = Part::whole(alloc, n)?;
-    for (rank, e) in list.iter().enumerate() {
+    let turns = turns(alloc, list).map_err(|_| OutOfMemory)?;
+    for turn in &turns {
+        let e = list[turn.rank as usize];
         part.give(PlacedEdge {
-            rank: rank as u32,
+            rank: turn.rank,
             a: e.u,
             b: e.v,
         });
@@ -59,7 +62,7 @@ fn part_of(alloc: Global, n: u32, list: &[Ranked]) -> Result<Part, OutOfMemory>
 fn numbered(alloc: Global, part: &Part, list: &[Ranked]) -> Result<Tree, AllocError>
     requires first { part.now.region.first ≡ 0 }
     requires list { IsRankedList (count part.now.region) list.now }
-    requires stands { Stands part.now (first_edges list.now (length list.now)) }
+    requires stands { Stands part.now (edges_of list.now) }
     ensures tree { IfOk result (λ tree. tree ≡ tree_of (count part.now.region) (edges_of list.now)) }
     ensures fronts { IfOk result (λ tree. IsFrontTree tree (count part.now.region) (edges_of list.now)) }
 {

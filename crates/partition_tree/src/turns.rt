@@ -4,10 +4,13 @@ ghost use Rattle.partition_tree.specs.Turns.{AreTurns};
 use crate::list::Ranked;
 use std::alloc::{AllocError, Global};
 
-/// When an edge of a list is given to a part. Edges between near vertices come before those that join what they have
-/// joined, so that chains are short as long as most edges are given: block by block, where an edge's block is the least
-/// one that holds both of its ends, of vertices k * 2^j up to (k + 1) * 2^j - 1 for some k and j. A block comes after the
-/// blocks in it, and a block's edges come in rising rank.
+// How many vertices a block may have before it counts as the block of all vertices.
+const LARGEST: u32 = 65_536;
+
+/// When an edge of a list is given to a part. An edge's block is the least one that holds both of its ends, of the
+/// vertices from k * 2^j up to (k + 1) * 2^j - 1 for some k and j, and the block of all vertices where that would have
+/// more than 65,536. A block comes after the blocks in it, and a block's edges come in rising rank. So chains are short
+/// as long as most edges of a picture are given, and those of an edge list with far ends aren't merged again and again.
 #[derive(Clone, Copy, PartialEq, Eq, PartialOrd, Ord)]
 pub(crate) struct Turn {
     // The last vertex of the block.
@@ -22,7 +25,8 @@ pub(crate) struct Turn {
 fn turn_of(rank: u32, e: &Ranked) -> Turn
     ensures { result.rank ≡ rank }
 {
-    let span = u32::MAX.wrapping_shr((e.u ^ e.v).leading_zeros());
+    let least = u32::MAX.wrapping_shr((e.u ^ e.v).leading_zeros());
+    let span = if least < LARGEST { least } else { u32::MAX };
     Turn {
         last: e.u | span,
         span,

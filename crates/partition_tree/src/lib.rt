@@ -3,6 +3,7 @@
 
 mod children;
 mod climbs;
+mod drawn;
 mod forest;
 mod laws;
 mod list;

@@ -12,6 +12,7 @@ use std::alloc::{AllocError, Global};
 pub(crate) trait Edges {
     ghost vertices: { Self → ℕ };
 
+    // How many ranks there are.
     ghost len: { Self → ℕ };
 
     ghost place_at: { Self → ℕ → ℕ };

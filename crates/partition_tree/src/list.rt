@@ -1,11 +1,8 @@
-ghost use Rattle.std.specs.Prelude.{◌≡◌, ℕ, ◌≤◌, ◌++◌, length, vec_len, map, replicate, slice_index, IfOk};
-ghost use Rattle.std.specs.List.{range_with_len};
+ghost use Rattle.std.specs.Prelude.{◌≡◌, length, IfOk};
 ghost use Rattle.hg_base.specs.Tree.{tree_of, IsFrontTree};
-ghost use Rattle.node_region.specs.Pool.{IsUsed, count, leaf_of};
+ghost use Rattle.node_region.specs.Pool.{count};
 ghost use Rattle.border_climb.specs.Stands.{Stands};
 ghost use Rattle.partition_tree.specs.Ranked.{IsRankedList, edge_at, edges_of};
-ghost use Rattle.border_climb.specs.Splicing.{rank_of};
-ghost use Rattle.partition_tree.specs.Numbering.{AreCells, AreMakers, node_above};
 
 use crate::drawn::{Edges, altitudes, leaf_parents, makers};
 use crate::forest::Forest;

@@ -1,14 +1,11 @@
-ghost use Rattle.std.specs.Prelude.{◌≡◌, ℕ, ◌<◌, ◌≤◌, ◌++◌, length, vec_len, map, replicate, slice_index, IfOk};
-ghost use Rattle.std.specs.List.{range_with_len};
+ghost use Rattle.std.specs.Prelude.{◌≡◌, length, IfOk};
 ghost use Rattle.hg_base.specs.Graph.{WeightedGraph};
 ghost use Rattle.hg_base.specs.Tree.{tree_of, graph_tree, IsFrontTree};
 ghost use Rattle.hg_base.specs.Rank.{ranked};
-ghost use Rattle.node_region.specs.Pool.{IsUsed, count, leaf_of};
+ghost use Rattle.node_region.specs.Pool.{count};
 ghost use Rattle.border_climb.specs.Stands.{Stands};
-ghost use Rattle.border_climb.specs.Splicing.{rank_of};
 ghost use Rattle.edge_order.specs.Order.{order_of, number_at_rank};
 ghost use Rattle.tile_plan.specs.Plan.{edges_at, place_of, root, vertices};
-ghost use Rattle.partition_tree.specs.Numbering.{AreCells, AreMakers, node_above};
 ghost use Rattle.partition_tree.specs.Planned.{weight_at};
 
 use crate::drawn::{Edges, altitudes, leaf_parents, makers};

@@ -1,12 +1,11 @@
 -- The part of a board's root covers all places.
-use Rattle.std.proofs.Common.{◌≡◌, ℕ, ◌+◌, ◌-◌, ap, ◌∙◌, arith}
+use Rattle.std.proofs.Common.{◌≡◌, ◌+◌, ap, ◌∙◌, arith}
 use Rattle.border_climb.specs.Stands.{PartState}
 use Rattle.merge_board.specs.Fits.{Fits}
 use Rattle.merge_board.proofs.Joins.{fitting}
 use Rattle.node_region.specs.Pool.{count}
 use Rattle.tile_plan.specs.Grids.{tree_in}
 use Rattle.tile_plan.specs.Merges.{tiles}
-use Rattle.tile_plan.specs.Placing.{start_by}
 use Rattle.tile_plan.specs.Plan.{TilePlan, IsPlan, end_place, first_place, grid_of, home, root, start, tile_count, vertices}
 use Rattle.tile_plan.specs.Sites.{Part}
 use Rattle.tile_plan.proofs.Agreeing.{home-below}

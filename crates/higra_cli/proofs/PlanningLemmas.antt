@@ -7,7 +7,6 @@ use Rattle.hg_base.specs.Graph.{WeightedGraph}
 use Rattle.hg_base.specs.Rank.{listed, number_at, ranked}
 use Rattle.hg_base.specs.declared.fault.InputFault.{InputFault}
 use Rattle.hg_base.specs.declared.fault.FaultKind.TheVariants.{TooManyTiles}
-use Rattle.merge_board.specs.Seats.{ReceiptState}
 use Rattle.pgm_reader.specs.Raster.{Raster}
 use Rattle.tile_plan.specs.Plan.{IsAnswer, TilePlan, squares, tile_count}
 use Rattle.tile_plan.specs.declared.fault.PlanFault.{PlanFault}

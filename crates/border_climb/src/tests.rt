@@ -1,14 +1,15 @@
+ghost use Rattle.std.specs.Prelude.{◌≡◌, ◌≢◌, ◌<◌};
 ghost use Rattle.hg_base.specs.Edges.{EdgeList};
-ghost use Rattle.node_region.specs.Pool.{IsCovered};
-ghost use Rattle.border_climb.specs.Parts.{CanTake};
+ghost use Rattle.node_region.specs.Pool.{IsCovered, fresh_pool};
+ghost use Rattle.border_climb.specs.Parts.{CanTake, IsLot};
 
 use super::*;
-use hg_base::{PlacedEdge, Room};
+use hg_base::{OutOfMemory, PlacedEdge, Room};
 use std::alloc::{AllocError, Global};
 use std::process::Abort;
 use std::test::Fail;
 
-// The edges of a cycle of four places. Their ranks follow their weights 1, 2, 5 and 6.
+// The edges of a cycle of four places, by rank.
 const LINKS: [PlacedEdge; 4] = [
     PlacedEdge {
         rank: 0,
@@ -32,30 +33,6 @@ const LINKS: [PlacedEdge; 4] = [
     },
 ];
 
-// The same edges in another order.
-const TURNED: [PlacedEdge; 4] = [
-    PlacedEdge {
-        rank: 3,
-        a: 2,
-        b: 3,
-    },
-    PlacedEdge {
-        rank: 2,
-        a: 0,
-        b: 1,
-    },
-    PlacedEdge {
-        rank: 0,
-        a: 1,
-        b: 2,
-    },
-    PlacedEdge {
-        rank: 1,
-        a: 0,
-        b: 3,
-    },
-];
-
 // The ranks of a place's chain.
 fn chain(alloc: Global, part: &Part, place: u32) -> Result<Vec<u32>, AllocError>
     requires { IsCovered part.now.region place }
@@ -69,71 +46,137 @@ fn chain(alloc: Global, part: &Part, place: u32) -> Result<Vec<u32>, AllocError>
     Ok(ranks)
 }
 
-// The part is that of the four edges.
-fn assert_whole(rt: &impl Abort, alloc: Global, part: &Part) -> Result<(), AllocError> {
-    assert_eq!(rt; (part.roots(), part.given()), (1, 4));
+// The number of components, and the ranks of the chain of each place, for the edges of the ranks whose bits are set.
+fn expected(set: usize) -> (u32, [&'static [u32]; 4]) {
+    let sets: [(u32, [&'static [u32]; 4]); 16] = [
+        (4, [&[], &[], &[], &[]]),
+        (3, [&[], &[0], &[0], &[]]),
+        (3, [&[1], &[], &[], &[1]]),
+        (2, [&[1], &[0], &[0], &[1]]),
+        (3, [&[2], &[2], &[], &[]]),
+        (2, [&[2], &[0, 2], &[0, 2], &[]]),
+        (2, [&[1, 2], &[2], &[], &[1, 2]]),
+        (1, [&[1, 2], &[0, 2], &[0, 2], &[1, 2]]),
+        (3, [&[], &[], &[3], &[3]]),
+        (2, [&[], &[0, 3], &[0, 3], &[3]]),
+        (2, [&[1, 3], &[], &[3], &[1, 3]]),
+        (1, [&[1, 3], &[0, 3], &[0, 3], &[1, 3]]),
+        (2, [&[2], &[2], &[3], &[3]]),
+        (1, [&[2, 3], &[0, 2, 3], &[0, 2, 3], &[3]]),
+        (1, [&[1, 2, 3], &[2, 3], &[3], &[1, 2, 3]]),
+        (1, [&[1, 2], &[0, 2], &[0, 2], &[1, 2]]),
+    ];
+    sets[set % 16]
+}
+
+// The part is that of the edges of the ranks whose bits are set.
+fn assert_set(rt: &impl Abort, alloc: Global, part: &Part, set: usize) -> Result<(), AllocError> {
+    let (roots, chains) = expected(set);
+    assert_eq!(rt;
+        (part.roots(), part.given()),
+        (roots, u64::from(set.count_ones()))
+    );
     assert!(rt; part.first() == 0);
     assert!(rt; part.count() == 4);
-    assert_eq!(rt; chain(alloc, part, 0)?.as_slice(), [1, 2].as_slice());
-    assert_eq!(rt; chain(alloc, part, 1)?.as_slice(), [0, 2].as_slice());
-    assert_eq!(rt; chain(alloc, part, 2)?.as_slice(), [0, 2].as_slice());
-    assert_eq!(rt; chain(alloc, part, 3)?.as_slice(), [1, 2].as_slice());
+    for place in 0..4 {
+        assert_eq!(rt;
+            chain(alloc, part, place)?.as_slice(),
+            chains[place as usize]
+        );
+    }
     Ok(())
 }
 
-// Gives a part each of the edges in turn, and what it answers.
-fn give_each(alloc: Global, part: &mut Part, edges: &[PlacedEdge]) -> Result<Vec<Given>, AllocError>
+// Gives a part each of the edges in turn, looks at the part after each, and tells what it answers.
+fn give_each(
+    rt: &impl Abort,
+    alloc: Global,
+    part: &mut Part,
+    edges: &[PlacedEdge],
+) -> Result<Vec<Given>, AllocError>
     requires { (s : EdgeList) × CanTake part.old edges.now s }
 {
     let mut answers = Vec::new(alloc);
+    let mut set = 0;
     for edge in edges {
         answers.push(part.give(*edge))?;
+        set |= 1 << (edge.rank % 4);
+        assert_set(rt, alloc, part, set)?;
     }
     Ok(answers)
 }
 
-// The part answers so when the edges are given, and is then that of the four edges.
-fn assert_answers(
+// The edge of this rank.
+fn link(rank: u32) -> PlacedEdge
+    requires { rank < 4 }
+    ensures rank { result.rank ≡ rank }
+    ensures a { result.a < 4 }
+    ensures b { result.b < 4 }
+    ensures two { result.a ≢ result.b }
+{
+    LINKS[rank as usize]
+}
+
+// The edges of these ranks.
+fn links(i: u32, j: u32, k: u32, l: u32) -> [PlacedEdge; 4]
+    requires few { (i < 4) × (j < 4) × (k < 4) × (l < 4) }
+    requires apart { (i ≢ j) × (i ≢ k) × (i ≢ l) × (j ≢ k) × (j ≢ l) × (k ≢ l) }
+    ensures { IsLot (fresh_pool 0 4 (record { places = 4; chunks = 1 })) result }
+{
+    [link(i), link(j), link(k), link(l)]
+}
+
+// Whichever order the edges come in, the first three join, and the last one answers so.
+fn assert_order(
     rt: &impl Abort,
     alloc: Global,
-    part: Part,
-    edges: &[PlacedEdge],
-    answers: &[Given],
-) -> Result<(), AllocError>
-    requires { (s : EdgeList) × CanTake part edges.now s }
-{
-    let mut part = part;
-    assert_eq!(rt; give_each(alloc, &mut part, edges)?.as_slice(), answers);
+    ranks: [u32; 4],
+    last: Given,
+) -> Result<(), OutOfMemory> {
+    let [i, j, k, l] = ranks;
+    assert!(rt; i < 4 && j < 4 && k < 4 && l < 4);
+    assert!(rt; i != j && i != k && i != l);
+    assert!(rt; j != k && j != l && k != l);
+    let edges = links(i, j, k, l);
+    let mut part = Part::whole(alloc, 4)?;
+    let answers = give_each(rt, alloc, &mut part, &edges).map_err(|_| OutOfMemory)?;
+    let expected = [Given::Joined, Given::Joined, Given::Joined, last];
+    assert_eq!(rt; answers.as_slice(), expected.as_slice());
     assert_eq!(rt; part.lots(), [].as_slice());
-    assert_whole(rt, alloc, &part)
+    Ok(())
 }
 
 #[test]
-fn answers(rt: HostRuntime) -> Result<(), Fail> {
-    assert_answers(
-        &rt,
-        rt.alloc(),
-        Part::whole(rt.alloc(), 4)?,
-        &TURNED,
-        &[
-            Given::Joined,
-            Given::Joined,
-            Given::Joined,
-            Given::Replaced(3),
-        ],
-    )?;
-    assert_answers(
-        &rt,
-        rt.alloc(),
-        Part::whole(rt.alloc(), 4)?,
-        &LINKS,
-        &[
-            Given::Joined,
-            Given::Joined,
-            Given::Joined,
-            Given::Redundant,
-        ],
-    )?;
+fn orders(rt: HostRuntime) -> Result<(), Fail> {
+    let orders = [
+        ([0, 1, 2, 3], Given::Redundant),
+        ([0, 1, 3, 2], Given::Replaced(3)),
+        ([0, 2, 1, 3], Given::Redundant),
+        ([0, 2, 3, 1], Given::Replaced(3)),
+        ([0, 3, 1, 2], Given::Replaced(3)),
+        ([0, 3, 2, 1], Given::Replaced(3)),
+        ([1, 0, 2, 3], Given::Redundant),
+        ([1, 0, 3, 2], Given::Replaced(3)),
+        ([1, 2, 0, 3], Given::Redundant),
+        ([1, 2, 3, 0], Given::Replaced(3)),
+        ([1, 3, 0, 2], Given::Replaced(3)),
+        ([1, 3, 2, 0], Given::Replaced(3)),
+        ([2, 0, 1, 3], Given::Redundant),
+        ([2, 0, 3, 1], Given::Replaced(3)),
+        ([2, 1, 0, 3], Given::Redundant),
+        ([2, 1, 3, 0], Given::Replaced(3)),
+        ([2, 3, 0, 1], Given::Replaced(3)),
+        ([2, 3, 1, 0], Given::Replaced(3)),
+        ([3, 0, 1, 2], Given::Replaced(3)),
+        ([3, 0, 2, 1], Given::Replaced(3)),
+        ([3, 1, 0, 2], Given::Replaced(3)),
+        ([3, 1, 2, 0], Given::Replaced(3)),
+        ([3, 2, 0, 1], Given::Replaced(3)),
+        ([3, 2, 1, 0], Given::Replaced(3)),
+    ];
+    for (ranks, last) in orders {
+        assert_order(&rt, rt.alloc(), ranks, last)?;
+    }
     Ok(())
 }
 
@@ -162,6 +205,6 @@ fn tiles(rt: HostRuntime) -> Result<(), Fail> {
     let right = build_tile(right, 1, &LINKS[3..]);
     let whole = join(left, right, 2, &LINKS[..2]);
     assert_eq!(rt; whole.lots(), [0, 1, 2].as_slice());
-    assert_whole(&rt, rt.alloc(), &whole)?;
+    assert_set(&rt, rt.alloc(), &whole, 15)?;
     Ok(())
 }

@@ -108,10 +108,12 @@ impl Graph {
         self.edges[e as usize]
     }
 
-    /// The area of this vertex.
+    /// The area of this vertex, from 1 to 4,096.
     pub fn area(&self, v: u32) -> u32
         requires { v < self.now.n }
-        ensures { slice_get self.now.areas v ≡ Some result }
+        ensures area { slice_get self.now.areas v ≡ Some result }
+        ensures positive { 1 ≤ result }
+        ensures small { result ≤ 4096 }
     {
         match &self.areas {
             Some(areas) => areas[v as usize],

@@ -1,6 +1,7 @@
 pub mod CommandLemmas
 pub mod DrawingLemmas
 pub mod LineLemmas
+pub mod MergingLemmas
 pub mod NumberLemmas
 pub mod OrderedLemmas
 pub mod PlanningLemmas

@@ -1,20 +1,24 @@
 -- Tiles that are too many, and faults that come before others.
-use Rattle.std.proofs.Common.{◌≡◌, ℕ, ◌<◌, ◌≤◌, Option, Some, None, Ok, Err, refl, sym, ap, ◌∙◌, subst}
+use Rattle.std.proofs.Common.{◌≡◌, ℕ, ◌*◌, ◌<◌, ◌≤◌, length, Option, Some, None, Ok, Err, refl, sym, ap, ◌∙◌, subst, arith}
 use Rattle.std.proofs.lemmas.Bool.{lt-ltb, le-ltb}
-use Rattle.edge_order.specs.Order.{order_of}
+use Rattle.std.proofs.lemmas.List.FromFn.{length-map-range_with_len}
+use Rattle.edge_order.specs.Order.{EdgeOrder, order_of}
 use Rattle.hg_base.specs.Graph.{WeightedGraph}
+use Rattle.hg_base.specs.Rank.{listed, number_at, ranked}
 use Rattle.hg_base.specs.declared.fault.InputFault.{InputFault}
 use Rattle.hg_base.specs.declared.fault.FaultKind.TheVariants.{TooManyTiles}
+use Rattle.merge_board.specs.Seats.{ReceiptState}
 use Rattle.pgm_reader.specs.Raster.{Raster}
-use Rattle.tile_plan.specs.Plan.{IsAnswer, TilePlan, squares}
+use Rattle.tile_plan.specs.Plan.{IsAnswer, TilePlan, squares, tile_count}
 use Rattle.tile_plan.specs.declared.fault.PlanFault.{PlanFault}
 use Rattle.tile_plan.specs.declared.fault.PlanFault.TheVariants as plans
 use Rattle.higra_cli.specs.Inputs.{graph_of}
-use Rattle.higra_cli.specs.Planning.{IsPlanOf, IsPlanned, run_fault}
-use Rattle.higra_cli.specs.Reports.{◌before◌, plan_of, tile_fault}
+use Rattle.higra_cli.specs.Planning.{IsPlanOf, IsPlanOver, IsPlanned, order_in, receipt_over, run_fault}
+use Rattle.higra_cli.specs.Reports.{◌before◌, plan_of, receipt_of, tile_fault}
 use Rattle.higra_cli.specs.declared.input.Input.{Input}
-use Rattle.higra_cli.specs.declared.input.Input.TheVariants.{Picture}
+use Rattle.higra_cli.specs.declared.input.Input.TheVariants.{Edges, Picture}
 use Rattle.higra_cli.specs.declared.planning.Planned.{Planned}
+use Rattle.higra_cli.specs.declared.request.Request.{Request}
 use Rattle.higra_cli.specs.declared.writing.RunFault.{RunFault}
 
 -- up to 65,536 tiles are no fault
@@ -44,6 +48,26 @@ pub plan_refused : (tile : ℕ) (input : Input) (why : PlanFault) (fault : RunFa
 plan_refused tile input (plans.TooManyTiles count) fault answer is =
     subst (λ (f : RunFault). IsPlanned tile input (Err f)) (sym is) (many_tiles _ answer.1 ∙ ap (λ (n : ℕ). Some (too_many n)) (sym answer.0))
 plan_refused tile input plans.OutOfMemory fault answer is = subst (λ (f : RunFault). IsPlanned tile input (Err f)) (sym is) tt
+
+-- the plan of an input has the vertices and the edges of its graph
+order_of-plan : (tile : ℕ) (input : Input) → order_of (graph_of input) ≡ order_in (plan_of tile input)
+order_of-plan tile (Edges graph) = let one : graph.n ≡ graph.n * 1 = omega arith in ap (λ (n : ℕ). record { n = n; edges = ranked graph }) one
+order_of-plan tile (Picture raster) = refl
+
+pub plan_is_over : (tile : ℕ) (input : Input) (planned : Planned) → IsPlanOf tile input planned → IsPlanOver (graph_of input) planned
+plan_is_over tile input planned is = record { graph = is.order; plan = is.order ∙ order_of-plan tile input ∙ ap order_in (sym is.plan) }
+
+-- so it has as many edges
+edges-in : (tile : ℕ) (input : Input) → length (plan_of tile input).edges ≡ length (graph_of input).edges
+edges-in tile input =
+    ap (λ (o : EdgeOrder). length o.edges) (sym (order_of-plan tile input))
+    ∙ length-map-range_with_len (λ k. listed (graph_of input) k (number_at (graph_of input) k)) 0 (length (graph_of input).edges)
+
+-- the receipt of its board is that of the request
+pub receipt_is : (request : Request) (input : Input) (planned : Planned) → IsPlanOf request.tile input planned → receipt_over planned.plan request.workers ≡ receipt_of request input
+receipt_is request input planned is =
+    ap (λ (p : TilePlan). receipt_over p request.workers) is.plan
+    ∙ ap (λ (m : ℕ). record { tiles = tile_count (plan_of request.tile input); workers = request.workers; edges = m }) (edges-in request.tile input)
 
 -- where the first fault isn't there, the second is the one
 pub before_none : (a b c : Option InputFault) → a ≡ None → b ≡ c → (a before b) ≡ c

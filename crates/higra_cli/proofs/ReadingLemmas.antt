@@ -125,7 +125,7 @@ StopsReading-fed old middle new first before (statuses.Input fault) begun fed st
     (stopped.1.0 ∙ begun.quiet, subst (λ (f : InputFault). AreRead old.bytes (Err f)) (sym stopped.0) (AreRead-long old.bytes new.bytes (first ++ more.0) much))
 StopsReading-fed old middle new first before statuses.ReadFailed begun fed stopped = subst (λ (n : ℕ). Rose n new.faults) begun.quiet stopped
 StopsReading-fed old middle new first before statuses.OutOfMemory begun fed stopped = tt
-StopsReading-fed old middle new first before statuses.Success begun fed stopped = absurd stopped
+StopsReading-fed old middle new first before (statuses.Success receipt) begun fed stopped = absurd stopped
 StopsReading-fed old middle new first before statuses.Usage begun fed stopped = absurd stopped
 StopsReading-fed old middle new first before statuses.WriteFailed begun fed stopped = absurd stopped
 
@@ -134,7 +134,7 @@ EndsReading-all : (old new : Told) (bytes : List ℕ) (result : Result Input Sta
 EndsReading-all old new bytes (Ok input) quiet all read = (quiet, (bytes, (all, read)))
 EndsReading-all old new bytes (Err (statuses.Input fault)) quiet all read = (quiet, AreRead-all old.bytes new.bytes bytes (Err fault) all read)
 EndsReading-all old new bytes (Err statuses.OutOfMemory) quiet all read = tt
-EndsReading-all old new bytes (Err statuses.Success) quiet all read = absurd read
+EndsReading-all old new bytes (Err (statuses.Success receipt)) quiet all read = absurd read
 EndsReading-all old new bytes (Err statuses.Usage) quiet all read = absurd read
 EndsReading-all old new bytes (Err statuses.ReadFailed) quiet all read = absurd read
 EndsReading-all old new bytes (Err statuses.WriteFailed) quiet all read = absurd read

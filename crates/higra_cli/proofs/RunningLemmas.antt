@@ -3,12 +3,13 @@ use Rattle.std.proofs.Common.{◌≡◌, ◌≢◌, inl, inr, ℕ, ◌≤◌, Li
 use Rattle.std.specs.Io.KnownBytes.{Appends}
 use Rattle.hg_base.specs.Outside.{AppendsPrefix, Rose}
 use Rattle.hg_base.specs.declared.fault.InputFault.{InputFault}
+use Rattle.merge_board.specs.Seats.{ReceiptState}
 use Rattle.higra_cli.proofs.ReadingLemmas.{AreRead-all}
 use Rattle.higra_cli.specs.Command.{requested}
 use Rattle.higra_cli.specs.Inputs.{graph_of, input_for}
 use Rattle.higra_cli.specs.Reading.{Told}
-use Rattle.higra_cli.specs.Reports.{refusal, report_of}
-use Rattle.higra_cli.specs.Running.{AreBytesOf, Ends, EndsWork, EndsWriting, GotInput, HasStatus, IsAnswerTo, IsFor, IsHierarchy, Reports, StoodStill, StopsGetting, Writes, answer_of, status_by, status_for}
+use Rattle.higra_cli.specs.Reports.{receipt_of, refusal, report_of}
+use Rattle.higra_cli.specs.Running.{AreBytesOf, Ends, EndsWork, EndsWriting, GotInput, HasStatus, IsAnswerTo, IsFor, IsHierarchy, Reports, ReportsWith, StoodStill, StopsGetting, Writes, answer_of, status_by, status_for}
 use Rattle.higra_cli.specs.declared.input.Input.{Input}
 use Rattle.higra_cli.specs.declared.request.Made.{Made}
 use Rattle.higra_cli.specs.declared.request.Request.{Request}
@@ -32,7 +33,7 @@ input_for-got (Some m) old new input got bytes are = ap Ok (sym got.1)
 input_for-got None old new input got bytes are = AreRead-all old new got.0 (Ok input) got.1.0 got.1.1 bytes are
 
 -- so its status is that of the input
-IsFor-got : (request : Request) (old new : Option (List ℕ)) (input : Input) → GotInput request.made old new input → IsFor request old (status_by (refusal request input))
+IsFor-got : (request : Request) (old new : Option (List ℕ)) (input : Input) → GotInput request.made old new input → IsFor request old (status_by (receipt_of request input) (refusal request input))
 unfolding answer_of
 IsFor-got request old new input got bytes are = ap (status_for request) (input_for-got request.made old new input got bytes are)
 
@@ -50,7 +51,7 @@ Ends-by words request (Some m) old new out status asked is stopped = subst (λ (
 Ends-by words request None old new out (statuses.Input fault) asked is stopped = ((request, (asked, IsFor-stopped request None old new fault is stopped)), stopped.0, refl)
 Ends-by words request None old new out statuses.ReadFailed asked is stopped = ((request, asked), stopped, refl)
 Ends-by words request None old new out statuses.OutOfMemory asked is stopped = refl
-Ends-by words request None old new out statuses.Success asked is stopped = absurd stopped
+Ends-by words request None old new out (statuses.Success receipt) asked is stopped = absurd stopped
 Ends-by words request None old new out statuses.Usage asked is stopped = absurd stopped
 Ends-by words request None old new out statuses.WriteFailed asked is stopped = absurd stopped
 
@@ -58,9 +59,9 @@ pub Ends-stopped : (words : List (List ℕ)) (request : Request) (old new out : 
 Ends-stopped words request old new out status asked stopped = Ends-by words request request.made old new out status asked refl stopped
 
 -- the input is accepted
-HasStatus-success : (words : List (List ℕ)) (request : Request) (input : Input) (old new : Option (List ℕ)) → requested words ≡ Some request → GotInput request.made old new input → refusal request input ≡ None → HasStatus words old statuses.Success
+HasStatus-success : (words : List (List ℕ)) (request : Request) (input : Input) (old new : Option (List ℕ)) → requested words ≡ Some request → GotInput request.made old new input → refusal request input ≡ None → HasStatus words old (statuses.Success (receipt_of request input))
 HasStatus-success words request input old new asked got accepted =
-    (request, (asked, subst (λ (o : Option InputFault). IsFor request old (status_by o)) accepted (IsFor-got request old new input got)))
+    (request, (asked, subst (λ (o : Option InputFault). IsFor request old (status_by (receipt_of request input) o)) accepted (IsFor-got request old new input got)))
 
 -- and something was done with its report
 Reports-done : (words : List (List ℕ)) (request : Request) (input : Input) (old new : Option (List ℕ)) (Done : List ℕ → Type 0) → requested words ≡ Some request → GotInput request.made old new input → Writes request input Done → Reports words old new Done
@@ -79,18 +80,27 @@ pub reports_written : (request : Request) (input : Input) (Done : List ℕ → T
 reports_written request input Done bytes accepted are done hierarchy = record { accepted = accepted; done = subst Done are done; hierarchy = hierarchy }
 
 -- how the writing of the report ended the run
-pub Ends-written : {T : Type 0} (words : List (List ℕ)) (request : Request) (input : Input) (old new out out' : Told) (result : Result T Status) → requested words ≡ Some request → new.faults ≡ old.faults → GotInput request.made old.bytes new.bytes input
+pub Ends-written : (words : List (List ℕ)) (request : Request) (input : Input) (old new out out' : Told) (result : Result ReceiptState Status) → requested words ≡ Some request → new.faults ≡ old.faults → GotInput request.made old.bytes new.bytes input
     → EndsWriting request input out out' result → EndsWork words old new out out' result
-Ends-written words request input old new out out' (Ok done) asked quiet got ends =
-    (HasStatus-success words request input old.bytes new.bytes asked got ends.0.accepted, Reports-done words request input old.bytes new.bytes (Appends out.bytes out'.bytes) asked got ends.0, quiet, ends.1)
+unfolding Reports-done
+Ends-written words request input old new out out' (Ok receipt) asked quiet got ends = (
+  subst (λ (r : ReceiptState). HasStatus words old.bytes (statuses.Success r)) (sym ends.1) (HasStatus-success words request input old.bytes new.bytes asked got ends.0.accepted),
+  (Reports-done words request input old.bytes new.bytes (Appends out.bytes out'.bytes) asked got ends.0, ends.1),
+  quiet,
+  ends.2,
+)
 Ends-written words request input old new out out' (Err statuses.WriteFailed) asked quiet got ends =
-    (HasStatus-success words request input old.bytes new.bytes asked got ends.0.accepted, Reports-done words request input old.bytes new.bytes (AppendsPrefix out.bytes out'.bytes) asked got ends.0, quiet, ends.1)
+    ((receipt_of request input, HasStatus-success words request input old.bytes new.bytes asked got ends.0.accepted), Reports-done words request input old.bytes new.bytes (AppendsPrefix out.bytes out'.bytes) asked got ends.0, quiet, ends.1)
 Ends-written words request input old new out out' (Err (statuses.Input fault)) asked quiet got ends =
-    ((request, (asked, subst (λ (o : Option InputFault). IsFor request old.bytes (status_by o)) ends.0 (IsFor-got request old.bytes new.bytes input got))), quiet, ends.1)
+    ((request, (asked, subst (λ (o : Option InputFault). IsFor request old.bytes (status_by (receipt_of request input) o)) ends.0 (IsFor-got request old.bytes new.bytes input got))), quiet, ends.1)
 Ends-written words request input old new out out' (Err statuses.OutOfMemory) asked quiet got ends = ends
-Ends-written words request input old new out out' (Err statuses.Success) asked quiet got ends = absurd ends
+Ends-written words request input old new out out' (Err (statuses.Success receipt)) asked quiet got ends = absurd ends
 Ends-written words request input old new out out' (Err statuses.Usage) asked quiet got ends = absurd ends
 Ends-written words request input old new out out' (Err statuses.ReadFailed) asked quiet got ends = absurd ends
+
+-- a success has one receipt
+pub with_receipt : (words : List (List ℕ)) (old new : Option (List ℕ)) (Done : List ℕ → Type 0) (a b : ReceiptState) → statuses.Success a ≡ statuses.Success b → ReportsWith words old new Done a → ReportsWith words old new Done b
+with_receipt words old new Done a b same reports = let one : a ≡ b = cc in subst (λ (r : ReceiptState). ReportsWith words old new Done r) one reports
 
 -- the words give one request
 pub one_request : (words : List (List ℕ)) (a b : Request) → requested words ≡ Some a → requested words ≡ Some b → a ≡ b
@@ -100,12 +110,12 @@ pub made_of_one : (words : List (List ℕ)) (a b : Request) (m : Made) → reque
 made_of_one words a b m first second is = ap (λ (r : Request). r.made) (one_request words a b first second) ∙ is
 
 -- getting an input ends in none of these
-pub stopped_other : (m : Option Made) (old new : Told) (status : Status) → StopsGetting m old new status → (status ≢ statuses.Success) × (status ≢ statuses.Usage)
-stopped_other (Some m) old new status stopped = (λ is. cc, λ is. cc)
-stopped_other None old new (statuses.Input fault) stopped = (λ is. cc, λ is. cc)
-stopped_other None old new statuses.ReadFailed stopped = (λ is. cc, λ is. cc)
-stopped_other None old new statuses.OutOfMemory stopped = (λ is. cc, λ is. cc)
-stopped_other None old new statuses.Success stopped = absurd stopped
+pub stopped_other : (m : Option Made) (old new : Told) (status : Status) → StopsGetting m old new status → ((receipt : ReceiptState) → status ≢ statuses.Success receipt) × (status ≢ statuses.Usage)
+stopped_other (Some m) old new status stopped = (λ receipt is. cc, λ is. cc)
+stopped_other None old new (statuses.Input fault) stopped = (λ receipt is. cc, λ is. cc)
+stopped_other None old new statuses.ReadFailed stopped = (λ receipt is. cc, λ is. cc)
+stopped_other None old new statuses.OutOfMemory stopped = (λ receipt is. cc, λ is. cc)
+stopped_other None old new (statuses.Success receipt) stopped = absurd stopped
 stopped_other None old new statuses.Usage stopped = absurd stopped
 stopped_other None old new statuses.WriteFailed stopped = absurd stopped
 
@@ -118,9 +128,9 @@ status-is words left status request bytes has asked are =
 -- where no read fails, the status is that one, unless memory ran out or the report wasn't written
 pub complete_from : (words : List (List ℕ)) (request : Request) (bytes : List ℕ) (old new out out' : Told) (status : Status) → Ends words old new out out' status → requested words ≡ Some request
     → AreBytesOf request.made old.bytes bytes → StoodStill old.faults new.faults → IsAnswerTo request bytes status
-complete_from words request bytes old new out out' statuses.Success ends asked are still = inl (status-is words old.bytes statuses.Success request bytes ends.0 asked are)
+complete_from words request bytes old new out out' (statuses.Success receipt) ends asked are still = inl (status-is words old.bytes (statuses.Success receipt) request bytes ends.0 asked are)
 complete_from words request bytes old new out out' (statuses.Input fault) ends asked are still = inl (status-is words old.bytes (statuses.Input fault) request bytes ends.0 asked are)
-complete_from words request bytes old new out out' statuses.WriteFailed ends asked are still = inr (inr (refl, sym (status-is words old.bytes statuses.Success request bytes ends.0 asked are)))
+complete_from words request bytes old new out out' statuses.WriteFailed ends asked are still = inr (inr (refl, (ends.0.0, sym (status-is words old.bytes (statuses.Success ends.0.0) request bytes ends.0.1 asked are))))
 complete_from words request bytes old new out out' statuses.OutOfMemory ends asked are still = inr (inl refl)
 complete_from words request bytes old new out out' statuses.Usage ends asked are still = cc
 complete_from words request bytes old new out out' statuses.ReadFailed ends asked are still = absurd (risen old.faults new.faults still ends.1)

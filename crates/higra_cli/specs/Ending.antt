@@ -11,7 +11,7 @@ use Rattle.higra_cli.specs.declared.request.WordsFault.TheVariants as words
 
 -- the code with which the program ends
 abbrev pub code_of : Status → ℕ
-code_of statuses.Success = 0
+code_of (statuses.Success receipt) = 0
 code_of statuses.Usage = 2
 code_of (statuses.Input f) = 3
 code_of statuses.ReadFailed = 4
@@ -49,7 +49,7 @@ input_words f = codes "input " ++ (decimal (number_of f.kind) ++ (32 ∷ (name_o
 
 -- the line that says why a run was refused; none for a run that wasn't
 abbrev pub fault_line : Status → List ℕ
-fault_line statuses.Success = []
+fault_line (statuses.Success receipt) = []
 fault_line statuses.Usage = said (codes "usage")
 fault_line (statuses.Input f) = said (input_words f)
 fault_line statuses.ReadFailed = said (codes "read failed")

@@ -65,7 +65,7 @@ abbrev pub StopsFeeding : Told → Told → InputDecoder → Status → Type 0
 StopsFeeding old new before (statuses.Input fault) = (fault ≡ too_long) × ((new.faults ≡ old.faults) × GaveOneMore old new before)
 StopsFeeding old new before statuses.ReadFailed = Rose old.faults new.faults
 StopsFeeding old new before statuses.OutOfMemory = Unit {0}
-StopsFeeding old new before statuses.Success = ⊥
+StopsFeeding old new before (statuses.Success receipt) = ⊥
 StopsFeeding old new before statuses.Usage = ⊥
 StopsFeeding old new before statuses.WriteFailed = ⊥
 
@@ -74,7 +74,7 @@ abbrev pub EndsDecoding : Result Input InputFault → Result Input Status → Ty
 EndsDecoding read (Ok input) = read ≡ Ok input
 EndsDecoding read (Err (statuses.Input fault)) = read ≡ Err fault
 EndsDecoding read (Err statuses.OutOfMemory) = Unit {0}
-EndsDecoding read (Err statuses.Success) = ⊥
+EndsDecoding read (Err (statuses.Success receipt)) = ⊥
 EndsDecoding read (Err statuses.Usage) = ⊥
 EndsDecoding read (Err statuses.ReadFailed) = ⊥
 EndsDecoding read (Err statuses.WriteFailed) = ⊥

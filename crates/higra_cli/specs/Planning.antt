@@ -1,8 +1,10 @@
 -- What planning the tiles of an input answers.
-use Rattle.std.specs.Prelude.{◌≡◌, ℕ, Some, None, Result, Ok, Err}
-use Rattle.edge_order.specs.Order.{order_of}
+use Rattle.std.specs.Prelude.{◌≡◌, ℕ, length, Some, None, Result, Ok, Err}
+use Rattle.edge_order.specs.Order.{EdgeOrder, order_of}
 use Rattle.hg_base.specs.declared.fault.FaultKind.TheVariants.{TooManyTiles}
-use Rattle.tile_plan.specs.Plan.{tile_count}
+use Rattle.hg_base.specs.Graph.{WeightedGraph}
+use Rattle.merge_board.specs.Seats.{ReceiptState}
+use Rattle.tile_plan.specs.Plan.{TilePlan, tile_count, vertices}
 use Rattle.tile_plan.specs.declared.fault.PlanFault.{PlanFault}
 use Rattle.tile_plan.specs.declared.fault.PlanFault.TheVariants as plans
 use Rattle.higra_cli.specs.Inputs.{graph_of}
@@ -22,6 +24,19 @@ pub record IsPlanOf (tile : ℕ) (input : Input) (planned : Planned) : Type 0 wh
   pub order : planned.order ≡ order_of (graph_of input)
   pub plan : planned.plan ≡ plan_of tile input
   pub few : tile_fault (tile_count (plan_of tile input)) ≡ None
+
+-- the order of a plan's edges, beside the number of its vertices
+abbrev pub order_in : TilePlan → EdgeOrder
+order_in p = record { n = vertices p; edges = p.edges }
+
+-- the order of a graph's edges, and a plan of the same vertices and edges
+pub record IsPlanOver (g : WeightedGraph) (planned : Planned) : Type 0 where
+  pub graph : planned.order ≡ order_of g
+  pub plan : planned.order ≡ order_in planned.plan
+
+-- the receipt of a plan's board of so many workers
+abbrev pub receipt_over : TilePlan → ℕ → ReceiptState
+receipt_over p workers = record { tiles = tile_count p; workers = workers; edges = length p.edges }
 
 -- what planning answers: the order and the plan, or that there are too many tiles, or that memory ran out
 abbrev pub IsPlanned : ℕ → Input → Result Planned RunFault → Type 0

@@ -44,7 +44,7 @@ abbrev pub StopsReading : Told → Told → Status → Type 0
 StopsReading old new (statuses.Input fault) = (new.faults ≡ old.faults) × AreRead old.bytes (Err fault)
 StopsReading old new statuses.ReadFailed = Rose old.faults new.faults
 StopsReading old new statuses.OutOfMemory = Unit {0}
-StopsReading old new statuses.Success = ⊥
+StopsReading old new (statuses.Success receipt) = ⊥
 StopsReading old new statuses.Usage = ⊥
 StopsReading old new statuses.WriteFailed = ⊥
 

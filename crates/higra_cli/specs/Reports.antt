@@ -1,5 +1,5 @@
 -- Which bytes a report about an input has.
-use Rattle.std.specs.Prelude.{◌≡◌, ℕ, nat_lt, if◌then◌else◌, List, [], Option, Some, None, Result, Ok, Err, Vec}
+use Rattle.std.specs.Prelude.{◌≡◌, ℕ, nat_lt, if◌then◌else◌, List, [], length, Option, Some, None, Result, Ok, Err, Vec}
 use Rattle.std.specs.declared.alloc.Global.{Global}
 use Rattle.hg_base.specs.Graph.{WeightedGraph}
 use Rattle.hg_base.specs.Labels.{Labelling, labelling}
@@ -10,6 +10,7 @@ use Rattle.hg_base.specs.Saliencies.{saliencies}
 use Rattle.hg_base.specs.declared.fault.InputFault.{InputFault}
 use Rattle.hg_base.specs.declared.fault.FaultKind.TheVariants.{NotAPicture, TooManyLabels, TooManyTiles}
 use Rattle.label_writer.specs.Report.{labels_picture, labels_report}
+use Rattle.merge_board.specs.Seats.{ReceiptState}
 use Rattle.partition_tree.specs.Report.{tree_report}
 use Rattle.saliency.specs.Report.{saliency_report}
 use Rattle.tile_plan.specs.Plan.{TilePlan, blocks, squares, tile_count}
@@ -66,6 +67,11 @@ plan_of tile (Picture raster) = squares (graph_of (Picture raster)) raster.width
 abbrev pub tiles_of : Request → Input → ℕ
 tiles_of request input = tile_count (plan_of request.tile input)
 
+-- the receipt of a request's report about an input: how many tiles its plan has, how many workers are asked for, and
+-- how many edges its graph has
+abbrev pub receipt_of : Request → Input → ReceiptState
+receipt_of request input = record { tiles = tiles_of request input; workers = request.workers; edges = length (graph_of input).edges }
+
 -- tiles that are too many for a plan, if they are
 unfoldable pub tile_fault : ℕ → Option InputFault
 tile_fault count = if nat_lt 65536 count then Some (record { kind = TooManyTiles; at = 0; value = count }) else None
@@ -102,13 +108,13 @@ refusal request input = picture_fault request.form input before (tile_fault (til
 
 -- what making a report of this form in tiles of this size answers: exactly its bytes, or why there is none, or that
 -- memory ran out
-abbrev pub IsReportIn : Form → ℕ → Report → Input → Result (Vec ℕ Global) RunFault → Type 0
-IsReportIn form tile report input (Ok bytes) = (refusal_in form tile report input ≡ None) × (bytes.items ≡ report_in form report input)
+abbrev pub IsReportIn : Form → ℕ → Report → Input → Result (Vec ℕ Global × ReceiptState) RunFault → Type 0
+IsReportIn form tile report input (Ok made) = (refusal_in form tile report input ≡ None) × (made.0.items ≡ report_in form report input)
 IsReportIn form tile report input (Err (faults.Input fault)) = refusal_in form tile report input ≡ Some fault
 IsReportIn form tile report input (Err faults.OutOfMemory) = Unit {0}
 
 -- what making a report answers: exactly its bytes, or why it can't be made of the input, or that memory ran out
-abbrev pub IsReport : Request → Input → Result (Vec ℕ Global) RunFault → Type 0
-IsReport request input (Ok bytes) = (refusal request input ≡ None) × (bytes.items ≡ report_of request input)
+abbrev pub IsReport : Request → Input → Result (Vec ℕ Global × ReceiptState) RunFault → Type 0
+IsReport request input (Ok made) = (refusal request input ≡ None) × (made.0.items ≡ report_of request input)
 IsReport request input (Err (faults.Input fault)) = refusal request input ≡ Some fault
 IsReport request input (Err faults.OutOfMemory) = Unit {0}

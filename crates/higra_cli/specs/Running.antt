@@ -8,11 +8,12 @@ use Rattle.hg_base.specs.Tree.{IsFrontTree, graph_tree}
 use Rattle.hg_base.specs.Saliency.{IsSaliency}
 use Rattle.hg_base.specs.Saliencies.{saliency}
 use Rattle.hg_base.specs.declared.fault.InputFault.{InputFault}
+use Rattle.merge_board.specs.Seats.{ReceiptState}
 use Rattle.pgm_reader.specs.Generator.{made}
 use Rattle.higra_cli.specs.Command.{requested}
 use Rattle.higra_cli.specs.Inputs.{graph_of, input_for}
 use Rattle.higra_cli.specs.Reading.{Told, GaveInput, StopsReading}
-use Rattle.higra_cli.specs.Reports.{refusal, report_of}
+use Rattle.higra_cli.specs.Reports.{receipt_of, refusal, report_of}
 use Rattle.higra_cli.specs.Request.{can_be_drawn}
 use Rattle.higra_cli.specs.declared.input.Input.{Input}
 use Rattle.higra_cli.specs.declared.input.Input.TheVariants.{Picture}
@@ -81,14 +82,18 @@ abbrev pub AreBytesOf : Option Made → Option (List ℕ) → List ℕ → Type 
 AreBytesOf (Some m) left bytes = Unit {0}
 AreBytesOf None left bytes = left ≡ Some bytes
 
--- the status for an input that is refused for this reason, or isn't
-abbrev pub status_by : Option InputFault → Status
-status_by None = statuses.Success
-status_by (Some fault) = statuses.Input fault
+-- the report was written
+abbrev pub IsSuccess : Status → Type 0
+IsSuccess status = (receipt : ReceiptState) × (status ≡ statuses.Success receipt)
+
+-- the status for an input that is refused for this reason, or isn't: then with this receipt
+abbrev pub status_by : ReceiptState → Option InputFault → Status
+status_by receipt None = statuses.Success receipt
+status_by receipt (Some fault) = statuses.Input fault
 
 -- the status for what was read
 abbrev pub status_for : Request → Result Input InputFault → Status
-status_for request (Ok input) = status_by (refusal request input)
+status_for request (Ok input) = status_by (receipt_of request input) (refusal request input)
 status_for request (Err fault) = statuses.Input fault
 
 -- the status of a request whose source has these bytes, where nothing fails
@@ -102,7 +107,7 @@ IsFor request left status = (bytes : List ℕ) → AreBytesOf request.made left 
 -- the status for these bytes; or memory ran out, or the report that they ask for wasn't written
 abbrev pub IsAnswerTo : Request → List ℕ → Status → Type 0
 IsAnswerTo request bytes status =
-    (status ≡ answer_of request bytes) ⊎ ((status ≡ statuses.OutOfMemory) ⊎ ((status ≡ statuses.WriteFailed) × (answer_of request bytes ≡ statuses.Success)))
+    (status ≡ answer_of request bytes) ⊎ ((status ≡ statuses.OutOfMemory) ⊎ ((status ≡ statuses.WriteFailed) × IsSuccess (answer_of request bytes)))
 
 -- the nodes of a graph's tree are the components of its fronts, each once, and the saliency of each edge is the least weight that joins its ends
 pub record IsHierarchy (g : WeightedGraph) : Type 0 where
@@ -119,6 +124,10 @@ pub record Reports (words : List (List ℕ)) (old new : Option (List ℕ)) (Done
   pub done : Done (report_of request input)
   pub hierarchy : IsHierarchy (graph_of input)
 
+-- this was done with exactly the report that was asked for, and the receipt is the one of its request and its input
+abbrev pub ReportsWith : List (List ℕ) → Option (List ℕ) → Option (List ℕ) → (List ℕ → Type 0) → ReceiptState → Type 0
+ReportsWith words old new Done receipt = (reports : Reports words old new Done) × (receipt ≡ receipt_of reports.request reports.input)
+
 -- The input is accepted, and this was done with exactly the report that was asked for.
 pub record Writes (request : Request) (input : Input) (Done : List ℕ → Type 0) : Type 0 where
   pub accepted : refusal request input ≡ None
@@ -126,12 +135,12 @@ pub record Writes (request : Request) (input : Input) (Done : List ℕ → Type 
   pub hierarchy : IsHierarchy (graph_of input)
 
 -- how the making and the writing of a report left the sink
-abbrev pub EndsWriting : {T : Type 0} → Request → Input → Told → Told → Result T Status → Type 0
-EndsWriting request input out out' (Ok done) = Writes request input (Appends out.bytes out'.bytes) × (out'.faults ≡ out.faults)
+abbrev pub EndsWriting : Request → Input → Told → Told → Result ReceiptState Status → Type 0
+EndsWriting request input out out' (Ok receipt) = Writes request input (Appends out.bytes out'.bytes) × (receipt ≡ receipt_of request input) × (out'.faults ≡ out.faults)
 EndsWriting request input out out' (Err (statuses.Input fault)) = (refusal request input ≡ Some fault) × (out'.faults ≡ out.faults)
 EndsWriting request input out out' (Err statuses.WriteFailed) = Writes request input (AppendsPrefix out.bytes out'.bytes) × Rose out.faults out'.faults
 EndsWriting request input out out' (Err statuses.OutOfMemory) = out'.faults ≡ out.faults
-EndsWriting request input out out' (Err statuses.Success) = ⊥
+EndsWriting request input out out' (Err (statuses.Success receipt)) = ⊥
 EndsWriting request input out out' (Err statuses.Usage) = ⊥
 EndsWriting request input out out' (Err statuses.ReadFailed) = ⊥
 
@@ -141,8 +150,8 @@ HasStatus words left status = (request : Request) × ((requested words ≡ Some 
 
 -- how a run on these words left its source and its sink, by its status
 abbrev pub Ends : List (List ℕ) → Told → Told → Told → Told → Status → Type 0
-Ends words source source' out out' statuses.Success =
-    HasStatus words source.bytes statuses.Success × Reports words source.bytes source'.bytes (Appends out.bytes out'.bytes) × (source'.faults ≡ source.faults) × (out'.faults ≡ out.faults)
+Ends words source source' out out' (statuses.Success receipt) =
+    HasStatus words source.bytes (statuses.Success receipt) × ReportsWith words source.bytes source'.bytes (Appends out.bytes out'.bytes) receipt × (source'.faults ≡ source.faults) × (out'.faults ≡ out.faults)
 Ends words source source' out out' statuses.Usage =
     (requested words ≡ None) × (source'.faults ≡ source.faults) × (out'.faults ≡ out.faults)
 Ends words source source' out out' (statuses.Input fault) =
@@ -150,10 +159,10 @@ Ends words source source' out out' (statuses.Input fault) =
 Ends words source source' out out' statuses.ReadFailed =
     HasRequest words × Rose source.faults source'.faults × (out'.faults ≡ out.faults)
 Ends words source source' out out' statuses.WriteFailed =
-    HasStatus words source.bytes statuses.Success × Reports words source.bytes source'.bytes (AppendsPrefix out.bytes out'.bytes) × (source'.faults ≡ source.faults) × Rose out.faults out'.faults
+    ((receipt : ReceiptState) × HasStatus words source.bytes (statuses.Success receipt)) × Reports words source.bytes source'.bytes (AppendsPrefix out.bytes out'.bytes) × (source'.faults ≡ source.faults) × Rose out.faults out'.faults
 Ends words source source' out out' statuses.OutOfMemory = out'.faults ≡ out.faults
 
 -- the same of what all but the fault line answered: an error is the status
-abbrev pub EndsWork : {T : Type 0} → List (List ℕ) → Told → Told → Told → Told → Result T Status → Type 0
+abbrev pub EndsWork : List (List ℕ) → Told → Told → Told → Told → Result ReceiptState Status → Type 0
 EndsWork words source source' out out' result =
-    MatchResult result (λ _. Ends words source source' out out' statuses.Success) (Ends words source source' out out')
+    MatchResult result (λ receipt. Ends words source source' out out' (statuses.Success receipt)) (Ends words source source' out out')

@@ -4,13 +4,14 @@ ghost use Rattle.higra_cli.specs.Ending.{code_of};
 
 use super::request::WordsFault;
 use hg_base::{InputFault, OutOfMemory};
+use merge_board::Receipt;
 use std::alloc::AllocError;
 
 /// How a run ended.
 #[derive(Debug, Drop)]
 pub enum Status {
-    /// The report was written.
-    Success,
+    /// The report was written. The receipt is that of the board on which its tree was made.
+    Success(Receipt),
     /// The words ask for nothing.
     Usage,
     /// The input has this fault.
@@ -29,7 +30,7 @@ impl Status {
         ensures { result ≡ code_of self.now }
     {
         match self {
-            Status::Success => 0,
+            Status::Success(_) => 0,
             Status::Usage => 2,
             Status::Input(_) => 3,
             Status::ReadFailed => 4,

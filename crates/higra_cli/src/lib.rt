@@ -8,6 +8,7 @@ mod ending;
 mod input;
 pub mod laws;
 mod line;
+mod merging;
 mod options;
 mod planning;
 mod reading;

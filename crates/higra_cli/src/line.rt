@@ -32,7 +32,7 @@ impl FaultLine {
         ensures { result ≡ fault_line status.now }
     {
         match status {
-            Status::Success => FaultLine::empty(),
+            Status::Success(_) => FaultLine::empty(),
             Status::Usage => FaultLine::saying("usage"),
             Status::Input(fault) => FaultLine::of_input(fault),
             Status::ReadFailed => FaultLine::saying("read failed"),

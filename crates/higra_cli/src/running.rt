@@ -3,10 +3,11 @@ ghost use Rattle.std.specs.Prelude.{◌≡◌, ◌≢◌, ◌⊎◌, ◌<◌, �
 ghost use Rattle.std.specs.Io.KnownBytes.{Appends};
 ghost use Rattle.hg_base.specs.Outside.{AppendsPrefix, Rose};
 ghost use Rattle.hg_base.specs.declared.fault.InputFault.{InputFault};
+ghost use Rattle.merge_board.specs.Seats.{ReceiptState};
 ghost use Rattle.higra_cli.specs.Command.{requested};
 ghost use Rattle.higra_cli.specs.Ending.{fault_line};
 ghost use Rattle.higra_cli.specs.Reading.{GaveAtMost, told};
-ghost use Rattle.higra_cli.specs.Running.{AreBytesOf, CanMake, CanReport, EndsGetting, EndsWork, EndsWriting, HasStatus, IsAnswerTo, Reports, StoodStill};
+ghost use Rattle.higra_cli.specs.Running.{AreBytesOf, CanMake, CanReport, EndsGetting, EndsWork, EndsWriting, HasStatus, IsAnswerTo, Reports, ReportsWith, StoodStill};
 
 use super::ending::Status;
 use super::input::Input;
@@ -16,12 +17,14 @@ use super::request::{Made, Request, request_of};
 use super::words::Words;
 use super::writing::{RunFault, report};
 use hg_base::{Gate, Sink, Source, write_all};
+use merge_board::Receipt;
 use pgm_reader::make_picture;
 use std::alloc::Global;
 use std::thread::Threads;
 
 /// Runs the program: reads the words, then the source to its end, makes the whole report in memory
-/// and writes it to `out`. Where the run is refused, `err` gets the fault line of the status.
+/// and writes it to `out`. The tree of the input's graph is made by the request's workers on the board of
+/// its tiles, and Success has the receipt of that board: the workers pass the gate. Where the run is refused, `err` gets the fault line of the status.
 ///
 /// The refusals come in this order: the words; each read, its failure first and then an input that
 /// is too long; the faults of the input; that it is no picture, has too many tiles, or too many
@@ -53,21 +56,22 @@ pub fn run<S: Source, K: Sink, E: Sink, G: Gate>(
     ensures complete { (request : Request) (bytes : List ℕ) → requested words.now ≡ Some request → AreBytesOf request.made (S.left source.old) bytes → StoodStill (S.faults source.old) (S.faults source.new) → IsAnswerTo request bytes result }
 
     // The report.
-    ensures success { result ≡ Status.Success → Reports words.now (S.left source.old) (S.left source.new) (Appends (K.content out.old) (K.content out.new)) }
+    ensures success { (receipt : ReceiptState) → result ≡ Status.Success receipt → Reports words.now (S.left source.old) (S.left source.new) (Appends (K.content out.old) (K.content out.new)) }
+    ensures receipt { (receipt : ReceiptState) → result ≡ Status.Success receipt → ReportsWith words.now (S.left source.old) (S.left source.new) (Appends (K.content out.old) (K.content out.new)) receipt }
     ensures begun { result ≡ Status.WriteFailed → Reports words.now (S.left source.old) (S.left source.new) (AppendsPrefix (K.content out.old) (K.content out.new)) }
 
     // The sink of the report.
     ensures write_failed { result ≡ Status.WriteFailed → Rose (K.faults out.old) (K.faults out.new) }
     ensures write_fault { K.faults out.old < K.faults out.new → result ≡ Status.WriteFailed }
-    ensures unwritten { result ≢ Status.Success → result ≢ Status.WriteFailed → out.new ≡ out.old }
+    ensures unwritten { ((receipt : ReceiptState) → result ≢ Status.Success receipt) → result ≢ Status.WriteFailed → out.new ≡ out.old }
 
     // The sink of the fault line.
-    ensures silent { result ≡ Status.Success → err.new ≡ err.old }
+    ensures silent { (receipt : ReceiptState) → result ≡ Status.Success receipt → err.new ≡ err.old }
     ensures line { AppendsPrefix (E.content err.old) (E.content err.new) (fault_line result) }
     ensures whole_line { StoodStill (E.faults err.old) (E.faults err.new) → Appends (E.content err.old) (E.content err.new) (fault_line result) }
 {
     match work(rt, alloc, words, source, out, gate) {
-        Ok(()) => Status::Success,
+        Ok(receipt) => Status::Success(receipt),
         Err(status) => {
             tell(&status, err);
             status
@@ -84,9 +88,9 @@ fn work<S: Source, K: Sink, G: Gate>(
     source: &mut S,
     out: &mut K,
     gate: &G,
-) -> Result<(), Status>
+) -> Result<Receipt, Status>
     ensures ends { EndsWork words.now (told (S.left source.old) (S.faults source.old)) (told (S.left source.new) (S.faults source.new)) (told (K.content out.old) (K.faults out.old)) (told (K.content out.new) (K.faults out.new)) result }
-    ensures refused { IfErr result (λ status. status ≢ Status.Success) }
+    ensures refused { IfErr result (λ status. (receipt : ReceiptState) → status ≢ Status.Success receipt) }
     ensures most { GaveAtMost 134217729 (S.left source.old) (S.left source.new) }
     ensures unread { IfErr result (λ status. status ≡ Status.Usage → source.new ≡ source.old) }
     ensures made { (request : Request) (m : Made) → requested words.now ≡ Some request → request.made ≡ Some m → source.new ≡ source.old }
@@ -108,16 +112,16 @@ fn write_report<K: Sink, G: Gate>(
     input: &Input,
     out: &mut K,
     gate: &G,
-) -> Result<(), Status>
+) -> Result<Receipt, Status>
     requires { CanReport request.now }
     ensures ends { EndsWriting request.now input.now (told (K.content out.old) (K.faults out.old)) (told (K.content out.new) (K.faults out.new)) result }
-    ensures refused { IfErr result (λ status. status ≢ Status.Success) }
+    ensures refused { IfErr result (λ status. (receipt : ReceiptState) → status ≢ Status.Success receipt) }
     ensures asked { IfErr result (λ status. status ≢ Status.Usage) }
     ensures unwritten { IfErr result (λ status. status ≢ Status.WriteFailed → out.new ≡ out.old) }
 {
     match report(rt, alloc, request, input, gate) {
-        Ok(bytes) => match write_all(out, &bytes) {
-            Ok(()) => Ok(()),
+        Ok((bytes, receipt)) => match write_all(out, &bytes) {
+            Ok(()) => Ok(receipt),
             Err(_) => Err(Status::WriteFailed),
         },
         Err(RunFault::Input(fault)) => Err(Status::Input(fault)),

@@ -228,6 +228,14 @@ fn reports_that_are_refused(rt: HostRuntime) -> Result<(), Fail> {
     Ok(())
 }
 
+// The numbers of tiles, workers and edges of a run that succeeded.
+fn receipt_in(status: &Status) -> Option<(u32, u32, u64)> {
+    match status {
+        Status::Success(receipt) => Some((receipt.tiles(), receipt.workers(), receipt.edges())),
+        _ => None,
+    }
+}
+
 #[test]
 fn as_many_tiles_as_there_may_be(rt: HostRuntime) -> Result<(), Fail> {
     let words = words_of(rt.alloc(), &["tree", "--tile", "1"])?;
@@ -244,6 +252,7 @@ fn as_many_tiles_as_there_may_be(rt: HostRuntime) -> Result<(), Fail> {
         &OpenGate,
     );
     assert_eq!(rt; status.code(), 0);
+    assert_eq!(rt; receipt_in(&status), Some((65_536, 4, 0)));
     assert!(rt; out.taken().starts_with(b"tree 65536 65536\n0 0 0\n1 1 0\n"));
     assert_eq!(rt; err.taken(), b"".as_slice());
     Ok(())

@@ -1,26 +1,25 @@
 // Making a report.
-ghost use Rattle.std.specs.Prelude.{◌≡◌, ◌≤◌, length, All, IfOk};
-ghost use Rattle.std.specs.List.Sorted.{IsNonDecreasingBy};
+ghost use Rattle.std.specs.Prelude.{◌≡◌, IfOk};
 ghost use Rattle.hg_base.specs.Labels.{labelling};
 ghost use Rattle.hg_base.specs.Levels.{AltitudesRise, shares};
 ghost use Rattle.label_writer.specs.Report.{labels_report};
 ghost use Rattle.hg_base.specs.Zones.{zones_of};
-ghost use Rattle.edge_order.specs.Order.{order_of};
 ghost use Rattle.partition_tree.specs.Report.{tree_report};
-ghost use Rattle.partition_tree.specs.Ranked.{JoinsTwo, IsRankedList};
 ghost use Rattle.higra_cli.specs.Inputs.{graph_of};
-ghost use Rattle.higra_cli.specs.Ordered.{altitude, tree_edges, IsTreeOf};
-ghost use Rattle.higra_cli.specs.Reports.{IsReport, IsReportIn, text_of};
+ghost use Rattle.higra_cli.specs.Ordered.{IsTreeOf};
+ghost use Rattle.higra_cli.specs.Planning.{IsPlanOver, receipt_over};
+ghost use Rattle.higra_cli.specs.Reports.{IsReport, IsReportIn, receipt_of, text_of};
 ghost use Rattle.higra_cli.specs.Running.{CanReport, CutsOwn, IsHierarchy};
 
 use super::drawing::picture_about;
 use super::input::Input;
-use super::planning::{plan_edges, plan_pixels};
+use super::merging::tree_of;
+use super::planning::{Planned, plan_edges, plan_pixels};
 use super::request::{Form, Report, Request};
-use edge_order::Order;
-use hg_base::{Gate, Graph, InputFault, OutOfMemory, RankedEdge};
+use hg_base::{Gate, Graph, InputFault, OutOfMemory};
 use label_writer::write_labels;
-use partition_tree::{Ranked, Tree, write_tree};
+use merge_board::Receipt;
+use partition_tree::{Tree, write_tree};
 use pgm_reader::graph_of;
 use quasi_flat_zones::zones;
 use saliency::{cut, saliency, write_saliency};
@@ -58,7 +57,9 @@ impl From<AllocError> for RunFault {
     }
 }
 
-/// The bytes of the report that is asked for, about this input.
+/// The bytes of the report that is asked for, about this input, and the receipt of the board on which its tree was made:
+/// how many tiles the input has, how many workers were asked for and how many edges the graph has. The workers pass the
+/// gate.
 ///
 /// A picture is drawn of a picture alone, and of at most 65,535 labels; and a plan has at most 65,536 tiles. Else the
 /// input has the fault NotAPicture, TooManyTiles or TooManyLabels, the first of these that it has. Memory may run out.
@@ -68,59 +69,84 @@ pub fn report<G: Gate>(
     alloc: Global,
     request: &Request,
     input: &Input,
-    _gate: &G,
-) -> Result<Vec<u8>, RunFault>
+    gate: &G,
+) -> Result<(Vec<u8>, Receipt), RunFault>
     requires { CanReport request.now }
     ensures report { IsReport request.now input.now result }
+    ensures receipt { IfOk result (λ made. made.1 ≡ receipt_of request.now input.now) }
     ensures hierarchy { IfOk result (λ _. IsHierarchy (graph_of input.now)) }
 {
     match request.form {
-        Form::Text => text_about(rt, alloc, request.report, request.tile, input),
-        Form::Pgm => picture_about(rt, alloc, request.report, request.tile, input),
+        Form::Text => text_about(rt, alloc, request, input, gate),
+        Form::Pgm => picture_about(rt, alloc, request, input, gate),
     }
 }
 
-// The text of a report about an input.
-#[tactic(auto, using(crate::proofs::PlanningLemmas::before_none, crate::proofs::PlanningLemmas::before_some))]
-fn text_about(
+// The text of a report about an input, and the receipt.
+#[tactic(auto, using(crate::proofs::PlanningLemmas::before_none, crate::proofs::PlanningLemmas::before_some, crate::proofs::PlanningLemmas::plan_is_over, crate::proofs::PlanningLemmas::receipt_is))]
+fn text_about<G: Gate>(
     rt: &(impl Threads + Sync),
     alloc: Global,
-    report: Report,
-    tile: u32,
+    request: &Request,
     input: &Input,
-) -> Result<Vec<u8>, RunFault>
-    requires own { CutsOwn report }
-    requires tile { 1 ≤ tile }
-    ensures text { IsReportIn Form.Text tile report input.now result }
+    gate: &G,
+) -> Result<(Vec<u8>, Receipt), RunFault>
+    requires { CanReport request.now }
+    ensures text { IsReportIn Form.Text request.now.tile request.now.report input.now result }
+    ensures receipt { IfOk result (λ made. made.1 ≡ receipt_of request.now input.now) }
     ensures hierarchy { IfOk result (λ _. IsHierarchy (graph_of input.now)) }
 {
     match input {
         Input::Edges(graph) => {
-            let planned = plan_edges(rt, alloc, graph, tile)?;
-            Ok(text(alloc, report, graph, &planned.order)?)
+            let planned = plan_edges(rt, alloc, graph, request.tile)?;
+            Ok(text(rt, alloc, request, graph, &planned, gate)?)
         }
         Input::Picture(picture) => {
             let graph = graph_of(rt, alloc, picture)?;
-            let planned = plan_pixels(rt, alloc, picture, &graph, tile)?;
-            Ok(text(alloc, report, &graph, &planned.order)?)
+            let planned = plan_pixels(rt, alloc, picture, &graph, request.tile)?;
+            Ok(text(rt, alloc, request, &graph, &planned, gate)?)
         }
     }
 }
 
-// The text of a report about a graph.
+// The text of a report about a planned graph, and the receipt.
+fn text<G: Gate>(
+    rt: &(impl Threads + Sync),
+    alloc: Global,
+    request: &Request,
+    graph: &Graph,
+    planned: &Planned,
+    gate: &G,
+) -> Result<(Vec<u8>, Receipt), OutOfMemory>
+    requires request { CanReport request.now }
+    requires planned { IsPlanOver graph.now planned.now }
+    ensures text { IfOk result (λ made. made.0.items ≡ text_of request.now.report graph.now) }
+    ensures receipt { IfOk result (λ made. made.1 ≡ receipt_over planned.now.plan request.now.workers) }
+    ensures hierarchy { IfOk result (λ _. IsHierarchy graph.now) }
+{
+    let (tree, receipt) = tree_of(rt, alloc, planned, request.workers, gate)?;
+    let text = text_of(alloc, request.report, graph, &tree)?;
+    Ok((text, receipt))
+}
+
+// The text of a report about a graph, whose tree this is.
 #[tactic(auto, using(crate::proofs::OrderedLemmas::is_hierarchy, crate::proofs::OrderedLemmas::shared_roots), unfolding(crate::specs::Reports::text_of))]
-fn text(alloc: Global, report: Report, graph: &Graph, order: &Order) -> Result<Vec<u8>, OutOfMemory>
+fn text_of(
+    alloc: Global,
+    report: Report,
+    graph: &Graph,
+    tree: &Tree,
+) -> Result<Vec<u8>, OutOfMemory>
     requires own { CutsOwn report }
-    requires order { order.now ≡ order_of graph.now }
+    requires tree { IsTreeOf graph.now tree.now }
     ensures text { IfOk result (λ text. text.items ≡ text_of report graph.now) }
     ensures hierarchy { IfOk result (λ _. IsHierarchy graph.now) }
 {
-    let tree = tree_of(alloc, graph, order)?;
     match report {
-        Report::Tree => write_tree(alloc, &tree),
-        Report::Zones => zones_text(alloc, &tree),
-        Report::Saliency => write_saliency(alloc, &saliency(alloc, graph, &tree)?),
-        Report::Cut(_, level) => regions_text(alloc, &tree, level),
+        Report::Tree => write_tree(alloc, tree),
+        Report::Zones => zones_text(alloc, tree),
+        Report::Saliency => write_saliency(alloc, &saliency(alloc, graph, tree)?),
+        Report::Cut(_, level) => regions_text(alloc, tree, level),
     }
 }
 
@@ -138,47 +164,4 @@ fn regions_text(alloc: Global, tree: &Tree, level: u64) -> Result<Vec<u8>, OutOf
     ensures { IfOk result (λ text. text.items ≡ labels_report (labelling (shares tree.now level) tree.now.leaves)) }
 {
     write_labels(alloc, &cut(alloc, tree, level)?)
-}
-
-/// The tree of a graph. The order is the graph's.
-pub(crate) fn tree_of(alloc: Global, graph: &Graph, order: &Order) -> Result<Tree, OutOfMemory>
-    requires { order.now ≡ order_of graph.now }
-    ensures { IfOk result (IsTreeOf graph.now) }
-{
-    let edges = ranked_list(alloc, graph, order)?;
-    let tree = Tree::of_list(alloc, graph.n(), &edges)?;
-    // That the tree is a forest.
-    let _ = tree.nodes();
-    Ok(tree)
-}
-
-// The edges of the graph as the list from which its tree is made.
-fn ranked_list(alloc: Global, graph: &Graph, order: &Order) -> Result<Vec<Ranked>, OutOfMemory>
-    requires { order.now ≡ order_of graph.now }
-    ensures edges { IfOk result (λ edges. edges.items ≡ tree_edges graph.now) }
-    ensures list { IfOk result (λ edges. IsRankedList graph.now.n edges.items) }
-{
-    // That the graph has vertices, and not too many.
-    let _ = graph.n();
-    edges_in_order(alloc, graph, order).map_err(|_| OutOfMemory)
-}
-
-fn edges_in_order(alloc: Global, graph: &Graph, order: &Order) -> Result<Vec<Ranked>, AllocError>
-    requires { order.now ≡ order_of graph.now }
-    ensures edges { IfOk result (λ edges. edges.items ≡ tree_edges graph.now) }
-    ensures few { IfOk result (λ edges. length edges.items ≤ 4194304) }
-    ensures ends { IfOk result (λ edges. All (JoinsTwo graph.now.n) edges.items) }
-    ensures rising { IfOk result (λ edges. IsNonDecreasingBy altitude edges.items) }
-{
-    let mut edges = Vec::with_capacity(alloc, graph.m() as usize)?;
-    for rank in 0..order.len() {
-        let RankedEdge { u, v, w, .. } = order.at(rank);
-        edges.push(Ranked {
-            u,
-            v,
-            edge: order.edge_at(rank),
-            altitude: u64::from(w),
-        })?;
-    }
-    Ok(edges)
 }

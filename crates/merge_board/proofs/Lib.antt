@@ -17,3 +17,4 @@ pub mod Joins
 pub mod Ending
 pub mod Opening
 pub mod Rooms
+pub mod Setting

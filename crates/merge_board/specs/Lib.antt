@@ -8,3 +8,4 @@ pub mod SeatsFields
 pub mod ReceiptFields
 pub mod Opening
 pub mod Exchanges
+pub mod Serving

@@ -1,5 +1,6 @@
 -- Seats: what contracts see of one, and how each step changes its view.
-use Rattle.std.specs.Prelude.{◌≡◌, ℕ, ◌+◌, ◌-◌, List, [], length, All, max, Some, None, true, false}
+use Rattle.std.specs.Prelude.{◌≡◌, ℕ, ◌+◌, ◌-◌, List, [], length, map, reverse, All, max, Some, None, true, false}
+use Rattle.std.specs.List.{range_with_len}
 use Rattle.tile_plan.specs.Plan.{TilePlan}
 use Rattle.atomic_table.specs.Seated.{TableId}
 use Rattle.merge_board.specs.declared.view.View.{View}
@@ -46,6 +47,13 @@ no_plan = record { frame = record { width = 0; height = 0; side = 0 }; edges = [
 -- the first seat's view: it stands for all workers
 abbrev pub first_view : TilePlan → ℕ → View
 first_view p workers = record { number = 0; hand = None; missed = false; share = workers; seen = 0; plan = p; workers = workers; found = 0 }
+
+-- a seat of one worker that has seen no step, and all seats of a board that is set up: number 0 is the last
+abbrev pub fresh_seat : BoardState → ℕ → SeatState
+fresh_seat board number = record { table = board.table; view = record { number = number; hand = None; missed = false; share = 1; seen = 0; plan = board.plan; workers = board.workers; found = 0 } }
+
+abbrev pub fresh_seats : BoardState → List SeatState
+fresh_seats board = map (fresh_seat board) (reverse (range_with_len 0 board.workers))
 
 -- the view after drawing tile d, and after missing
 abbrev pub drawn : View → ℕ → View

@@ -10,8 +10,10 @@ mod rule;
 mod seat;
 mod seats;
 mod serving;
+mod setting_up;
 mod slots;
 mod view;
+mod working;
 
 pub use arrival::Arrival;
 pub use board::Board;
@@ -20,3 +22,7 @@ pub use seat::Seat;
 pub use seats::Seats;
 pub use serving::serve;
 pub use view::View;
+pub use working::hierarchy;
+
+#[cfg(test)]
+mod tests;

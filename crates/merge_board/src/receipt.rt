@@ -17,7 +17,7 @@ use std::marker::Model;
 use tile_plan::Plan;
 
 /// What a closed board leaves: how many tiles, workers and edges it had. Only closing a board makes one.
-#[derive(Drop)]
+#[derive(Debug, Drop)]
 pub struct Receipt {
     tiles: u32,
     workers: u32,

@@ -1,5 +1,5 @@
-ghost use Rattle.std.specs.Prelude.{◌≡◌, ℕ, ◌+◌, ◌-◌, ◌*◌, ◌<◌, Some, None, false};
-ghost use Rattle.tile_plan.specs.Plan.{IsPlan, part_count, tile_count};
+ghost use Rattle.std.specs.Prelude.{◌≡◌, ℕ, ◌+◌, ◌-◌, ◌*◌, ◌<◌, ◌≤◌, Some, None, false};
+ghost use Rattle.tile_plan.specs.Plan.{IsPlan, left, part_count, right, tile_count};
 ghost use Rattle.merge_board.specs.Fits.{Fits, Opened};
 ghost use Rattle.merge_board.specs.Seats.{IsSeatOf, IsReady, IsDone};
 
@@ -33,7 +33,7 @@ fn hand_on<G: Gate>(board: &Board, plan: &Plan, seat: &mut Seat, gate: &G, numbe
         return;
     };
     gate.pass(seat.number(), GateEvent::Merging(merge));
-    let part = join(left, right, merge, plan.lot(merge));
+    let part = merged(plan, merge, left, right);
     hand_on(board, plan, seat, gate, merge, part);
 }
 
@@ -58,7 +58,7 @@ pub fn serve<G: Gate>(board: &Board, plan: &Plan, seat: &mut Seat, gate: &G)
 }
 
 // A tile's part with the tile's lot.
-fn built(plan: &Plan, tile: u32, part: Part) -> Part
+pub(crate) fn built(plan: &Plan, tile: u32, part: Part) -> Part
     requires tile { tile < tile_count plan.now }
     requires opened { Opened plan.now tile part }
     ensures fits { Fits plan.now tile result }
@@ -66,4 +66,16 @@ fn built(plan: &Plan, tile: u32, part: Part) -> Part
 {
     let _ = plan.tiles();
     build_tile(part, tile, plan.lot(tile))
+}
+
+// Both halves of a merge with the merge's lot.
+pub(crate) fn merged(plan: &Plan, merge: u32, left_half: Part, right_half: Part) -> Part
+    requires merge { tile_count plan.now ≤ merge }
+    requires part { merge < part_count plan.now }
+    requires left { Fits plan.now (left plan.now merge) left_half }
+    requires right { Fits plan.now (right plan.now merge) right_half }
+    ensures { Fits plan.now merge result }
+{
+    let _ = plan.tiles();
+    join(left_half, right_half, merge, plan.lot(merge))
 }

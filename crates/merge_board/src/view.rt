@@ -24,6 +24,7 @@ pub struct View {
 }
 
 /// What a board is told once: its plan and its number of workers.
+#[derive(Drop)]
 pub struct Key {
     pub(crate) plan: Snapshot<Plan>,
     pub(crate) workers: u32,

@@ -16,6 +16,8 @@ pub use picture::made_picture;
 pub use report::{PlainReport, report_of};
 
 #[cfg(test)]
+mod gate_tests;
+#[cfg(test)]
 mod outside_tests;
 #[cfg(test)]
 mod running;

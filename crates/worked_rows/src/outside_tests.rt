@@ -1,4 +1,4 @@
-//! Worked runs: inputs that are cut, calls that fail, and pictures of many regions.
+//! Worked runs: inputs that are cut, calls that fail, and pictures of many tiles and of many regions.
 use crate::running::{Ran, run_well, run_words};
 use hg_base::{MemSink, MemSource};
 use std::alloc::{AllocError, Global};
@@ -108,6 +108,22 @@ fn sinks_that_are_full(rt: HostRuntime) -> Result<(), Fail> {
     }
     let whole = run_with_room(&rt, rt.alloc(), 39)?;
     is_as_wanted(&rt, &whole, 0, PATH_TREE.as_bytes(), b"");
+    Ok(())
+}
+
+#[test]
+fn a_picture_of_many_tiles(rt: HostRuntime) -> Result<(), Fail> {
+    let mut source = MemSource::new(Vec::new(rt.alloc()), 1, Vec::new(rt.alloc()));
+    let out = MemSink::with_room(rt.alloc(), 10_000_000, 65_536, Vec::new(rt.alloc()))?;
+    let err = MemSink::with_room(rt.alloc(), 100, 100, Vec::new(rt.alloc()))?;
+    let words = ["tree", "--make", "512"];
+    let ran = run_words(&rt, rt.alloc(), &words, &mut source, out, err)?;
+    assert_eq!(rt; ran.code, 0);
+    assert!(rt; ran.out.taken().starts_with(b"tree 524287 262144\n"));
+    let tiled = ["tree", "--make", "512", "--tile", "1"];
+    let refused = run_well(&rt, rt.alloc(), &tiled, b"")?;
+    let line = b"higra: input 12 TooManyTiles at 0 value 262144\n";
+    is_as_wanted(&rt, &refused, 3, b"", line);
     Ok(())
 }
 

@@ -1,4 +1,4 @@
-use hg_base::{MemSink, MemSource, OpenGate, Source};
+use hg_base::{Gate, MemSink, MemSource, OpenGate, Source};
 use higra_cli::{Words, run};
 use std::alloc::Global;
 use std::test::Fail;
@@ -12,22 +12,35 @@ pub(crate) struct Ran {
     pub err: MemSink,
 }
 
-/// Runs the program on these words.
-pub(crate) fn run_words<S: Source>(
+/// Runs the program on these words, with workers that pass this gate.
+pub(crate) fn run_passing<S: Source, G: Gate>(
     rt: &(impl Threads + Sync),
     alloc: Global,
     texts: &[&str],
     source: &mut S,
     mut out: MemSink,
     mut err: MemSink,
+    gate: &G,
 ) -> Result<Ran, Fail> {
     let mut words = Words::new(alloc);
     for text in texts {
         words.push(text)?;
     }
-    let status = run(rt, alloc, &words, source, &mut out, &mut err, &OpenGate);
+    let status = run(rt, alloc, &words, source, &mut out, &mut err, gate);
     let code = status.code();
     Ok(Ran { code, out, err })
+}
+
+/// Runs the program on these words.
+pub(crate) fn run_words<S: Source>(
+    rt: &(impl Threads + Sync),
+    alloc: Global,
+    texts: &[&str],
+    source: &mut S,
+    out: MemSink,
+    err: MemSink,
+) -> Result<Ran, Fail> {
+    run_passing(rt, alloc, texts, source, out, err, &OpenGate)
 }
 
 /// Runs the program on these words and this input, where nothing outside fails.

@@ -5,22 +5,14 @@ ghost use Rattle.attributes.specs.Attributes.{area};
 use hg_base::Graph;
 use std::alloc::{AllocError, Global};
 
-// No vertex of a graph has a greater area.
-const GREATEST_AREA: u32 = 4096;
-
-/// The area of each vertex. Every graph keeps to the greatest area, but `Graph::area` doesn't promise it: a greater one
-/// would be refused here as if there were no memory.
+/// The area of each vertex.
 pub(crate) fn areas(alloc: Global, graph: &Graph) -> Result<Vec<u64>, AllocError>
     ensures areas { IfOk result (λ areas. areas.items ≡ map (area graph.now) (range_with_len 0 graph.now.n)) }
     ensures small { IfOk result (λ areas. All (λ a. a ≤ 4096) areas.items) }
 {
     let mut areas = Vec::with_capacity(alloc, graph.n() as usize)?;
     for x in 0..graph.n() {
-        let area = graph.area(x);
-        if area > GREATEST_AREA {
-            return Err(AllocError);
-        }
-        areas.push(u64::from(area))?;
+        areas.push(u64::from(graph.area(x)))?;
     }
     Ok(areas)
 }

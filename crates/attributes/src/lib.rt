@@ -1,0 +1,17 @@
+//! Attributes of the nodes of a graph's tree: area, volume and dynamics.
+#![tactic(auto)]
+
+mod floors;
+mod gather;
+mod laws;
+mod leaves;
+mod report;
+mod sums;
+mod table;
+
+pub use laws::{floors_are_low, volume_by_area};
+pub use report::write_attributes;
+pub use table::Attributes;
+
+#[cfg(test)]
+mod tests;

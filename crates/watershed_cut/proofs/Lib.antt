@@ -1,0 +1,17 @@
+pub mod AnyIn
+pub mod MinimumWalks
+pub mod ForestWalks
+pub mod PlateauPasses
+pub mod KeyPasses
+pub mod Quiet
+pub mod PlateauLaws
+pub mod PlateauKeys
+pub mod LabelLemmas
+pub mod Hits
+pub mod Counting
+pub mod Star
+pub mod ForestLaws
+pub mod GraphForest
+pub mod Cheapest
+pub mod LeastForest
+pub mod TreeLabels

@@ -75,7 +75,7 @@ range-distinct p a (suc k) =
         let low : a + 1 ≤ y = at.0 in ne_eqb a y (λ same. omega arith))
 
 -- the edge at its rank is the edge by its number
-ranked-numbered : (g : WeightedGraph) (e : ListedEdge) → IsIn e (ranked g) → (i : ℕ) × ((i < length g.edges) × (numbered g i ≡ e))
+pub ranked-numbered : (g : WeightedGraph) (e : ListedEdge) → IsIn e (ranked g) → (i : ℕ) × ((i < length g.edges) × (numbered g i ≡ e))
 ranked-numbered g e m =
     let at = ranked-at g e m in
     let low : e.rank < length g.edges = at.0 in

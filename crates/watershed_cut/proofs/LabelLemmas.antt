@@ -44,7 +44,7 @@ level_labels_more g t vertices e label labels new ends so_far own is pushed = (
 )
 
 -- each edge of the ranked list has a number
-ranked-ends : (g : WeightedGraph) → ((e : ℕ) → e < length g.edges → HasTwoEnds g e) → (e : ListedEdge) → IsIn e (ranked g) → (f : ℕ) × (HasTwoEnds g f × ((e.u ≡ first_end g f) × (e.v ≡ second_end g f)))
+pub ranked-ends : (g : WeightedGraph) → ((e : ℕ) → e < length g.edges → HasTwoEnds g e) → (e : ListedEdge) → IsIn e (ranked g) → (f : ℕ) × (HasTwoEnds g f × ((e.u ≡ first_end g f) × (e.v ≡ second_end g f)))
 ranked-ends g ends e i =
     let at = ranked-at g e i in
     let low : e.rank < length g.edges = at.0 in

@@ -15,3 +15,9 @@ pub mod GraphForest
 pub mod Cheapest
 pub mod LeastForest
 pub mod TreeLabels
+pub mod NearestPasses
+pub mod ForestPasses
+pub mod NearLaws
+pub mod NodeLabels
+pub mod FilterPasses
+pub mod WatershedLemmas

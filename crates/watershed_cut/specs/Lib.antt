@@ -7,3 +7,5 @@ pub mod Watershed
 pub mod Report
 pub mod MinimaFields
 pub mod Passes
+pub mod TreePasses
+pub mod WatershedFields

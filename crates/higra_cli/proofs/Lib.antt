@@ -8,3 +8,4 @@ pub mod PlanningLemmas
 pub mod ReadingLemmas
 pub mod RunningLemmas
 pub mod SpelledLemmas
+pub mod WatershedLemmas

@@ -27,6 +27,7 @@ use Rattle.higra_cli.specs.Ordered.{IsTreeOf}
 use Rattle.higra_cli.specs.Planning.{order_in}
 use Rattle.higra_cli.specs.Reports.{text_of}
 use Rattle.higra_cli.specs.Running.{IsHierarchy}
+use Rattle.higra_cli.proofs.WatershedLemmas.{ends-within, plan-read, watershed-is}
 use Rattle.higra_cli.specs.declared.request.Report.{Report}
 use Rattle.higra_cli.specs.declared.request.Report.TheVariants.{Cut, Zones}
 use Rattle.higra_cli.specs.declared.request.Kind.{Kind}
@@ -38,11 +39,8 @@ tree_of_plan g p t plan order same forest = record {
   forest = forest;
   rises = subst AltitudesRise (sym same) (tree-rises g.n (ranked g) (AreApart-ranked g) (AreByWeight-ranked g));
   ends = subst (λ (o : EdgeOrder). AreWithin o.n o.edges) (sym order) (within-edges p plan);
+  read = plan-read g p t plan order same forest;
 }
-
--- the ends of an edge are vertices
-ends-within : (g : WeightedGraph) (e : ℕ) → AreWithin g.n (ranked g) → e < length g.edges → (first_end g e < g.n) × (second_end g e < g.n)
-ends-within g e within h = within (listed g (rank g e) e) (IsIn-ranked g e h)
 
 -- the ends of each edge are below one root
 ends-share : (g : WeightedGraph) → AreWithin g.n (ranked g) → IsForest (graph_tree g) → EndsShareRoots g (graph_tree g)
@@ -58,7 +56,7 @@ shared_roots g t is = subst (λ (u : ParentTree). EndsShareRoots g u) (sym is.sa
 
 -- a graph whose tree was made
 pub is_hierarchy : (g : WeightedGraph) (t : ParentTree) → IsTreeOf g t → IsHierarchy g
-is_hierarchy g t is = record { nodes = front-tree g.n (ranked g) (AreApart-ranked g) is.ends; saliencies = λ e h. saliency-is g e h }
+is_hierarchy g t is = record { nodes = front-tree g.n (ranked g) (AreApart-ranked g) is.ends; saliencies = λ e h. saliency-is g e h; watershed = watershed-is g is.ends is.read }
 
 -- the text of a graph's zones
 pub text_of_zones : {E : Type 0} (report : Report) (g : WeightedGraph) (t : ParentTree) (r : Result (Vec ℕ Global) E) → report ≡ Zones → IsTreeOf g t → IfOk r (λ text. text.items ≡ tree_report (zones_of t)) → IfOk r (λ text. text.items ≡ text_of report g)

@@ -6,6 +6,7 @@ use Rattle.hg_base.specs.Levels.{AltitudesRise}
 use Rattle.hg_base.specs.Rank.{ranked}
 use Rattle.hg_base.specs.Tree.{ParentTree, graph_tree}
 use Rattle.partition_tree.specs.Forest.{IsForest}
+use Rattle.forest_witness.specs.Reading.{IsRead}
 
 -- the tree is that of the graph, with what the reports about it need
 pub record IsTreeOf (g : WeightedGraph) (t : ParentTree) : Type 0 where
@@ -13,3 +14,4 @@ pub record IsTreeOf (g : WeightedGraph) (t : ParentTree) : Type 0 where
   pub forest : IsForest t
   pub rises : AltitudesRise t
   pub ends : AreWithin g.n (ranked g)
+  pub read : IsRead g

@@ -16,8 +16,11 @@ use Rattle.merge_board.specs.Seats.{ReceiptState}
 use Rattle.partition_tree.specs.Report.{tree_report}
 use Rattle.saliency.specs.Report.{saliency_report}
 use Rattle.tile_plan.specs.Plan.{TilePlan, blocks, squares, tile_count}
+use Rattle.watershed_cut.specs.Forest.{forest}
 use Rattle.watershed_cut.specs.MinimumLabels.{minima_of}
-use Rattle.watershed_cut.specs.Report.{minima_report}
+use Rattle.watershed_cut.specs.Report.{minima_report, watershed_report}
+use Rattle.watershed_cut.specs.Rooted.{cost}
+use Rattle.watershed_cut.specs.Watershed.{watershed_of}
 use Rattle.higra_cli.specs.Inputs.{graph_of}
 use Rattle.higra_cli.specs.declared.request.Form.{Form}
 use Rattle.higra_cli.specs.declared.request.Form.TheVariants as forms
@@ -33,13 +36,14 @@ use Rattle.higra_cli.specs.declared.writing.RunFault.TheVariants as faults
 abbrev pub regions : WeightedGraph → ℕ → Labelling
 regions g level = labelling (shares (graph_tree g) level) g.n
 
--- the labels of a report; so far only a cut of the graph's own tree has some
+-- the labels of a report; so far a watershed cut and a cut of the graph's own tree have some
 abbrev pub labels_of : Report → WeightedGraph → Labelling
 labels_of reports.Tree g = record { labels = []; count = 0 }
 labels_of reports.Zones g = record { labels = []; count = 0 }
 labels_of reports.Saliency g = record { labels = []; count = 0 }
 labels_of reports.Attributes g = record { labels = []; count = 0 }
 labels_of reports.Minima g = record { labels = []; count = 0 }
+labels_of reports.Watershed g = (watershed_of g).labels
 labels_of (reports.Cut None level) g = regions g level
 labels_of (reports.Cut (Some kind) level) g = record { labels = []; count = 0 }
 
@@ -50,6 +54,7 @@ text_of reports.Zones g = tree_report (zones_of (graph_tree g))
 text_of reports.Saliency g = saliency_report (saliencies g)
 text_of reports.Attributes g = attributes_report (attributes_of g)
 text_of reports.Minima g = minima_report (minima_of g)
+text_of reports.Watershed g = watershed_report (watershed_of g) (minima_of g).count (cost g (forest g))
 text_of (reports.Cut kind level) g = labels_report (labels_of (reports.Cut kind level) g)
 
 -- the picture of a report about an input: the labels of a picture's pixels

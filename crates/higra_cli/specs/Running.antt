@@ -1,7 +1,8 @@
 -- What a run leaves behind, by how it ended.
-use Rattle.std.specs.Prelude.{◌≡◌, ◌⊎◌, ℕ, ◌-◌, ◌^◌, ◌<◌, ◌≤◌, true, List, length, Option, Some, None, Result, Ok, Err, MatchResult}
+use Rattle.std.specs.Prelude.{◌≡◌, ◌↔◌, ◌⊎◌, ℕ, ◌-◌, ◌^◌, ◌<◌, ◌≤◌, true, List, get_or, length, Option, Some, None, Result, Ok, Err, MatchResult}
 use Rattle.std.specs.Io.KnownBytes.{Appends}
-use Rattle.hg_base.specs.Graph.{WeightedGraph}
+use Rattle.hg_base.specs.Edges.{IsIn, Joined}
+use Rattle.hg_base.specs.Graph.{WeightedGraph, first_end, second_end}
 use Rattle.hg_base.specs.Outside.{Rose, AppendsPrefix}
 use Rattle.hg_base.specs.Rank.{ranked}
 use Rattle.hg_base.specs.Tree.{IsFrontTree, graph_tree}
@@ -10,6 +11,10 @@ use Rattle.hg_base.specs.Saliencies.{saliency}
 use Rattle.hg_base.specs.declared.fault.InputFault.{InputFault}
 use Rattle.merge_board.specs.Seats.{ReceiptState}
 use Rattle.pgm_reader.specs.Generator.{made}
+use Rattle.watershed_cut.specs.Minima.{InMinimum}
+use Rattle.watershed_cut.specs.MinimumTests.{vertex_label}
+use Rattle.watershed_cut.specs.Rooted.{IsRooted, cost, planted}
+use Rattle.watershed_cut.specs.Watershed.{WatershedCut, watershed_of}
 use Rattle.higra_cli.specs.Command.{requested}
 use Rattle.higra_cli.specs.Inputs.{graph_of, input_for}
 use Rattle.higra_cli.specs.Reading.{Told, GaveInput, StopsReading}
@@ -37,6 +42,7 @@ CutsOwn reports.Zones = Unit {0}
 CutsOwn reports.Saliency = Unit {0}
 CutsOwn reports.Attributes = Unit {0}
 CutsOwn reports.Minima = Unit {0}
+CutsOwn reports.Watershed = Unit {0}
 CutsOwn (reports.Cut kind level) = kind ≡ None
 
 -- what a report may be asked for
@@ -111,10 +117,22 @@ abbrev pub IsAnswerTo : Request → List ℕ → Status → Type 0
 IsAnswerTo request bytes status =
     (status ≡ answer_of request bytes) ⊎ ((status ≡ statuses.OutOfMemory) ⊎ ((status ≡ statuses.WriteFailed) × IsSuccess (answer_of request bytes)))
 
--- the nodes of a graph's tree are the components of its fronts, each once, and the saliency of each edge is the least weight that joins its ends
+-- The forest is rooted in the minima, and no list of edges that is rooted so weighs less. The forest and the minimum edges
+-- join each vertex to the minimum whose label it has, and to no other. The cut holds exactly the edges whose ends they don't join.
+pub record IsWatershed (g : WeightedGraph) (w : WatershedCut) : Type 0 where
+  pub rooted : IsRooted g w.forest
+  pub least : (f : List ℕ) → IsRooted g f → cost g w.forest ≤ cost g f
+  pub one_label_each : length w.labels.labels ≡ g.n
+  pub reach : (x : ℕ) → x < g.n → (y : ℕ) × (InMinimum g.n (ranked g) y × Joined (planted g w.forest) x y)
+  pub label : (x y : ℕ) → x < g.n → InMinimum g.n (ranked g) y → Joined (planted g w.forest) x y → get_or w.labels.labels x 0 ≡ vertex_label g.n (ranked g) y
+  pub cut : (e : ℕ) → IsIn e w.cut ↔ ((e < length g.edges) × (¬ Joined (planted g w.forest) (first_end g e) (second_end g e)))
+
+-- the nodes of a graph's tree are the components of its fronts, each once, the saliency of each edge is the least weight
+-- that joins its ends, and the watershed cut is one
 pub record IsHierarchy (g : WeightedGraph) : Type 0 where
   pub nodes : IsFrontTree (graph_tree g) g.n (ranked g)
   pub saliencies : (e : ℕ) → e < length g.edges → IsSaliency g e (saliency g e)
+  pub watershed : IsWatershed g (watershed_of g)
 
 -- The words gave a request, its input is accepted, and this was done with exactly the report that was asked for.
 pub record Reports (words : List (List ℕ)) (old new : Option (List ℕ)) (Done : List ℕ → Type 0) : Type 0 where

@@ -36,6 +36,8 @@ pub enum Report {
     Attributes,
     /// The minima of the graph: the label of each vertex and of each edge.
     Minima,
+    /// The watershed cut of the graph: the label of each vertex, the edges of the cut and those of the forest.
+    Watershed,
     /// The regions of a tree at a level: of the graph's own tree, or of its hierarchical watershed by a kind.
     Cut(Option<Kind>, u64),
 }
@@ -144,6 +146,7 @@ fn report_by(given: &Given) -> Option<Report>
         "saliency" => alone(given, Report::Saliency),
         "attributes" => alone(given, Report::Attributes),
         "minima" => alone(given, Report::Minima),
+        "watershed" => alone(given, Report::Watershed),
         "cut" => cut_by(given),
         _ => None,
     }

@@ -10,7 +10,10 @@ ghost use Rattle.hg_base.specs.Zones.{zones_of};
 ghost use Rattle.hg_base.specs.Tree.{graph_tree};
 ghost use Rattle.partition_tree.specs.Report.{tree_report};
 ghost use Rattle.watershed_cut.specs.MinimumLabels.{minima_of};
-ghost use Rattle.watershed_cut.specs.Report.{minima_report};
+ghost use Rattle.watershed_cut.specs.Forest.{forest};
+ghost use Rattle.watershed_cut.specs.Report.{minima_report, watershed_report};
+ghost use Rattle.watershed_cut.specs.Rooted.{cost};
+ghost use Rattle.watershed_cut.specs.Watershed.{watershed_of};
 ghost use Rattle.higra_cli.specs.Inputs.{graph_of};
 ghost use Rattle.higra_cli.specs.Ordered.{IsTreeOf};
 ghost use Rattle.higra_cli.specs.Planning.{IsPlanOver, receipt_over};
@@ -24,6 +27,7 @@ use super::planning::{Planned, plan_edges, plan_pixels};
 use super::request::{Form, Report, Request};
 use attributes::{Attributes, write_attributes};
 use edge_order::Order;
+use forest_witness::witness;
 use hg_base::{Gate, Graph, InputFault, OutOfMemory};
 use label_writer::write_labels;
 use merge_board::Receipt;
@@ -33,7 +37,7 @@ use quasi_flat_zones::zones;
 use saliency::{cut, saliency, write_saliency};
 use std::alloc::{AllocError, Global};
 use std::thread::Threads;
-use watershed_cut::{Minima, write_minima};
+use watershed_cut::{Minima, watershed, write_minima, write_watershed};
 
 /// Why no report was made.
 #[derive(Clone, Copy, Debug, PartialEq, Eq)]
@@ -159,6 +163,7 @@ fn text_of(
         Report::Saliency => write_saliency(alloc, &saliency(alloc, graph, tree)?),
         Report::Attributes => attributes_text(alloc, graph, tree),
         Report::Minima => minima_text(alloc, graph, order, tree),
+        Report::Watershed => watershed_text(alloc, graph, order, tree),
         Report::Cut(_, level) => regions_text(alloc, tree, level),
     }
 }
@@ -191,6 +196,23 @@ fn minima_text(
     ensures { IfOk result (λ text. text.items ≡ minima_report (minima_of graph.now)) }
 {
     write_minima(alloc, &Minima::of(alloc, graph, order, tree)?)
+}
+
+// The text of the watershed cut of a graph, whose order and tree these are.
+fn watershed_text(
+    alloc: Global,
+    graph: &Graph,
+    order: &Order,
+    tree: &Tree,
+) -> Result<Vec<u8>, OutOfMemory>
+    requires order { order.now ≡ order_of graph.now }
+    requires tree { tree.now ≡ graph_tree graph.now }
+    ensures { IfOk result (λ text. text.items ≡ watershed_report (watershed_of graph.now) (minima_of graph.now).count (cost graph.now (forest graph.now))) }
+{
+    let minima = Minima::of(alloc, graph, order, tree)?;
+    let watershed = watershed(alloc, graph, order, tree, &minima)?;
+    let weight = witness(graph, &minima, &watershed);
+    write_watershed(alloc, &watershed, &minima, weight)
 }
 
 // The text of the regions of a tree at a level.

@@ -1,5 +1,5 @@
 -- The watershed cut of a graph is one.
-use Rattle.std.proofs.Common.{◌≡◌, ℕ, ◌<◌, ◌≤◌, true, inl, inr, sym, subst, ap, ◌∙◌, arith, length, map}
+use Rattle.std.proofs.Common.{◌≡◌, ℕ, ◌+◌, ◌<◌, ◌≤◌, true, inl, inr, sym, subst, ap, ◌∙◌, arith, length, map}
 use Rattle.std.specs.Prelude.{◌↔◌, ◌==◌, Option, filter, slice_get}
 use Rattle.std.specs.Option.{option_map_or}
 use Rattle.std.proofs.lemmas.Bool.{eqb-false, ne_eqb, not-true, not_from_false}

@@ -1,5 +1,5 @@
 -- The tree of a graph, and the texts of reports about it.
-use Rattle.std.proofs.Common.{◌≡◌, ℕ, ◌<◌, ◌≤◌, [], length, refl, sym, ap, ◌∙◌, subst, arith}
+use Rattle.std.proofs.Common.{◌≡◌, ℕ, ◌≤◌, [], length, refl, sym, ap, ◌∙◌, subst, arith}
 use Rattle.std.specs.Prelude.{Option, None, Result, Ok, Err, IfOk, Vec}
 use Rattle.std.specs.declared.alloc.Global.{Global}
 use Rattle.edge_order.specs.Order.{EdgeOrder, order_of}
@@ -8,13 +8,13 @@ use Rattle.hg_base.specs.Graph.{WeightedGraph, first_end, second_end}
 use Rattle.hg_base.specs.Labels.{labelling}
 use Rattle.hg_base.specs.Levels.{AltitudesRise, shares}
 use Rattle.label_writer.specs.Report.{labels_report}
-use Rattle.hg_base.specs.Rank.{listed, rank, ranked}
+use Rattle.hg_base.specs.Rank.{ranked}
 use Rattle.hg_base.specs.Saliencies.{saliency}
 use Rattle.hg_base.specs.Zones.{zones_of}
 use Rattle.hg_base.specs.Tree.{ParentTree, graph_tree}
 use Rattle.hg_base.proofs.FrontOnce.{front-tree}
 use Rattle.hg_base.proofs.Levels.{level-tree}
-use Rattle.hg_base.proofs.Ranked.{AreApart-ranked, AreByWeight-ranked, IsIn-ranked}
+use Rattle.hg_base.proofs.Ranked.{AreApart-ranked, AreByWeight-ranked}
 use Rattle.hg_base.proofs.Saliencies.{saliency-is}
 use Rattle.partition_tree.specs.Forest.{IsForest}
 use Rattle.partition_tree.specs.Report.{tree_report}

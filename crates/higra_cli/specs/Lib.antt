@@ -11,3 +11,4 @@ pub mod Request
 pub mod Running
 pub mod Spelled
 pub mod Worked
+pub mod Drawing

@@ -94,14 +94,14 @@ report_by line =
     else (if bytes_eq line.report (codes "watershed") then alone line reports.Watershed
     else (if bytes_eq line.report (codes "cut") then cut_by line else None))))))
 
--- whether a report can be drawn as a picture: a cut, whose labels are its samples
+-- whether a report can be drawn as a picture: a watershed or a cut, whose labels are its samples
 abbrev pub can_be_drawn : Report → Bool
 can_be_drawn reports.Tree = false
 can_be_drawn reports.Zones = false
 can_be_drawn reports.Saliency = false
 can_be_drawn reports.Attributes = false
 can_be_drawn reports.Minima = false
-can_be_drawn reports.Watershed = false
+can_be_drawn reports.Watershed = true
 can_be_drawn (reports.Cut kind level) = true
 
 -- the form with this name, where the report can have it

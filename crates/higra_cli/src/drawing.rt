@@ -1,22 +1,33 @@
 // Drawing a report as a picture.
-ghost use Rattle.std.specs.Prelude.{◌≡◌, true, None, IfOk};
+ghost use Rattle.std.specs.Prelude.{◌≡◌, ◌*◌, true, IfOk, length};
+ghost use Rattle.edge_order.specs.Order.{order_of};
+ghost use Rattle.hg_base.specs.Labels.{labelling};
+ghost use Rattle.hg_base.specs.Levels.{AltitudesRise, shares};
+ghost use Rattle.hg_base.specs.Tree.{graph_tree};
+ghost use Rattle.pgm_reader.specs.Grid as grid;
+ghost use Rattle.watershed_cut.specs.Watershed.{watershed_of};
+ghost use Rattle.higra_cli.specs.Drawing.{IsDrawn};
 ghost use Rattle.higra_cli.specs.Inputs.{graph_of};
-ghost use Rattle.higra_cli.specs.Reports.{IsReportIn, receipt_of};
+ghost use Rattle.higra_cli.specs.Ordered.{IsTreeOf};
+ghost use Rattle.higra_cli.specs.Reports.{IsReportIn, labels_of, receipt_of};
 ghost use Rattle.higra_cli.specs.Request.{can_be_drawn};
-ghost use Rattle.higra_cli.specs.Running.{CanReport, IsHierarchy};
+ghost use Rattle.higra_cli.specs.Running.{CanReport, CutsOwn, IsHierarchy};
 
 use super::input::Input;
 use super::merging::tree_of;
 use super::planning::plan_pixels;
 use super::request::{Form, Report, Request};
 use super::writing::RunFault;
-use hg_base::{FaultKind, Gate, InputFault};
+use edge_order::Order;
+use hg_base::{FaultKind, Gate, Graph, InputFault, Labels};
 use label_writer::{LabelFault, write_pgm};
 use merge_board::Receipt;
+use partition_tree::Tree;
 use pgm_reader::{Picture, graph_of};
 use saliency::cut;
 use std::alloc::Global;
 use std::thread::Threads;
+use watershed_cut::{Minima, watershed};
 
 const NOT_A_PICTURE: InputFault = InputFault {
     kind: FaultKind::NotAPicture,
@@ -45,39 +56,100 @@ pub(crate) fn picture_about<G: Gate>(
 {
     match input {
         Input::Edges(_) => Err(RunFault::Input(NOT_A_PICTURE)),
-        Input::Picture(picture) => match request.report {
-            Report::Cut(_, level) => regions_picture(rt, alloc, request, picture, level, gate),
-            Report::Tree
-            | Report::Zones
-            | Report::Saliency
-            | Report::Attributes
-            | Report::Minima
-            | Report::Watershed => unreachable!(),
-        },
+        Input::Picture(picture) => drawing(rt, alloc, request, picture, gate),
     }
 }
 
-// The picture of the regions of a picture at a level, and the receipt.
-#[tactic(auto, using(crate::proofs::OrderedLemmas::is_hierarchy, crate::proofs::PlanningLemmas::plan_is_over, crate::proofs::PlanningLemmas::receipt_is, crate::proofs::DrawingLemmas::region_pixels, crate::proofs::DrawingLemmas::drawn_regions, crate::proofs::DrawingLemmas::too_many_regions))]
-fn regions_picture<G: Gate>(
+// The picture of a report about a picture, and the receipt.
+#[tactic(auto, using(crate::proofs::PlanningLemmas::plan_is_over))]
+fn drawing<G: Gate>(
     rt: &(impl Threads + Sync),
     alloc: Global,
     request: &Request,
     picture: &Picture,
-    level: u64,
     gate: &G,
 ) -> Result<(Vec<u8>, Receipt), RunFault>
-    requires { CanReport request.now }
-    ensures picture { IsReportIn Form.Pgm request.now.tile (Report.Cut None level) (Input.Picture picture.now) result }
+    requires request { CanReport request.now }
+    requires drawn { can_be_drawn request.now.report ≡ true }
+    ensures picture { IsReportIn Form.Pgm request.now.tile request.now.report (Input.Picture picture.now) result }
     ensures receipt { IfOk result (λ made. made.1 ≡ receipt_of request.now (Input.Picture picture.now)) }
     ensures hierarchy { IfOk result (λ _. IsHierarchy (graph_of (Input.Picture picture.now))) }
 {
     let graph = graph_of(rt, alloc, picture)?;
     let planned = plan_pixels(rt, alloc, picture, &graph, request.tile)?;
     let (tree, receipt) = tree_of(rt, alloc, &planned, request.workers, gate)?;
-    let labels = cut(alloc, &tree, level)?;
-    match write_pgm(alloc, &labels, picture.width(), picture.height()) {
-        Ok(bytes) => Ok((bytes, receipt)),
+    let report = request.report;
+    let bytes = draw_report(alloc, report, &graph, &planned.order, &tree, picture)?;
+    Ok((bytes, receipt))
+}
+
+// The picture of the labels of a report about a picture, whose graph, order and tree these are.
+#[tactic(auto, using(crate::proofs::DrawingLemmas::region_labels))]
+fn draw_report(
+    alloc: Global,
+    report: Report,
+    graph: &Graph,
+    order: &Order,
+    tree: &Tree,
+    picture: &Picture,
+) -> Result<Vec<u8>, RunFault>
+    requires drawn { can_be_drawn report ≡ true }
+    requires own { CutsOwn report }
+    requires graph { graph.now ≡ grid.graph_of picture.now }
+    requires order { order.now ≡ order_of graph.now }
+    requires tree { IsTreeOf graph.now tree.now }
+    ensures { IsDrawn (labels_of report graph.now) picture.now result }
+{
+    match report {
+        Report::Watershed => draw_watershed(alloc, graph, order, tree, picture),
+        Report::Cut(_, level) => draw_regions(alloc, tree, level, picture),
+        Report::Tree | Report::Zones | Report::Saliency | Report::Attributes | Report::Minima =>
+            unreachable!(),
+    }
+}
+
+// The picture of the labels of the watershed cut of a picture, whose graph, order and tree these are.
+fn draw_watershed(
+    alloc: Global,
+    graph: &Graph,
+    order: &Order,
+    tree: &Tree,
+    picture: &Picture,
+) -> Result<Vec<u8>, RunFault>
+    requires graph { graph.now ≡ grid.graph_of picture.now }
+    requires order { order.now ≡ order_of graph.now }
+    requires tree { tree.now ≡ graph_tree graph.now }
+    ensures { IsDrawn (watershed_of graph.now).labels picture.now result }
+{
+    let minima = Minima::of(alloc, graph, order, tree)?;
+    let watershed = watershed(alloc, graph, order, tree, &minima)?;
+    draw(alloc, watershed.labels(), picture)
+}
+
+// The picture of the regions of a tree over the pixels of a picture at a level.
+#[tactic(auto, using(crate::proofs::DrawingLemmas::region_pixels))]
+fn draw_regions(
+    alloc: Global,
+    tree: &Tree,
+    level: u64,
+    picture: &Picture,
+) -> Result<Vec<u8>, RunFault>
+    requires rises { AltitudesRise tree.now }
+    requires pixels { tree.now.leaves ≡ picture.now.width * picture.now.height }
+    ensures { IsDrawn (labelling (shares tree.now level) tree.now.leaves) picture.now result }
+{
+    let labels = cut(alloc, tree, level)?;
+    draw(alloc, &labels, picture)
+}
+
+// The picture of these labels, one for each pixel of a picture.
+#[tactic(auto, using(crate::proofs::DrawingLemmas::few_labels, crate::proofs::DrawingLemmas::many_labels))]
+fn draw(alloc: Global, labels: &Labels, picture: &Picture) -> Result<Vec<u8>, RunFault>
+    requires { picture.now.width * picture.now.height ≡ length labels.now.labels }
+    ensures { IsDrawn labels.now picture.now result }
+{
+    match write_pgm(alloc, labels, picture.width(), picture.height()) {
+        Ok(bytes) => Ok(bytes),
         Err(LabelFault::TooManyLabels(count)) => Err(RunFault::Input(InputFault {
             kind: FaultKind::TooManyLabels,
             at: 0,

@@ -92,7 +92,7 @@ fn form_named(report: Report, text: &str) -> Option<Form>
 fn can_be_drawn(report: Report) -> bool
     ensures { result ≡ can_be_drawn report }
 {
-    matches!(report, Report::Cut(_, _))
+    matches!(report, Report::Watershed | Report::Cut(_, _))
 }
 
 /// `--make` and `--seed`: the picture that is made, if one is. A seed needs a side.

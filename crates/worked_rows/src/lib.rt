@@ -12,6 +12,7 @@ mod minima;
 mod picture;
 mod report;
 mod tree;
+mod watershed;
 mod zones;
 
 pub use picture::made_picture;

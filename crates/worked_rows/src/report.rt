@@ -3,6 +3,7 @@ use crate::edge_list::{PlainGraph, read_graph};
 use crate::levels::{heads, regions_up_to, saliencies};
 use crate::minima::minima_of;
 use crate::tree::{PlainTree, tree_of};
+use crate::watershed::watershed_of;
 use crate::zones::zones_of;
 use std::alloc::{AllocError, Global};
 
@@ -19,6 +20,8 @@ pub enum PlainReport {
     Attributes,
     /// The minima.
     Minima,
+    /// The watershed cut.
+    Watershed,
     /// The regions of the tree at a level.
     Cut(u64),
 }
@@ -85,6 +88,30 @@ fn minima_text(alloc: Global, graph: &PlainGraph) -> Result<String, AllocError> 
     Ok(text)
 }
 
+/// Adds a line for each number, with the word.
+fn add_numbers(text: &mut String, word: &str, numbers: &[usize]) -> Result<(), AllocError> {
+    for number in numbers {
+        writeln!(text, "{word} {number}")?;
+    }
+    Ok(())
+}
+
+/// The text of the watershed cut of a graph.
+fn watershed_text(alloc: Global, graph: &PlainGraph) -> Result<String, AllocError> {
+    let minima = minima_of(alloc, graph)?;
+    let watershed = watershed_of(alloc, graph, &minima)?;
+    let n = watershed.labels.len();
+    let count = minima.count;
+    let cuts = watershed.cut.len();
+    let forests = watershed.forest.len();
+    let weight = watershed.weight;
+    let mut text = format!(in alloc; "watershed {n} {count} {cuts} {forests} {weight}\n")?;
+    add_labels(&mut text, "v", &watershed.labels)?;
+    add_numbers(&mut text, "cut", &watershed.cut)?;
+    add_numbers(&mut text, "forest", &watershed.forest)?;
+    Ok(text)
+}
+
 /// The text of the regions of a tree at a level. A region's label is 1 and the number of regions with a lesser least
 /// vertex, so it counts the region itself with those.
 fn cut_text(alloc: Global, tree: &PlainTree, level: u64) -> Result<String, AllocError> {
@@ -115,6 +142,7 @@ pub fn report_of(
         PlainReport::Saliency => saliency_text(alloc, &graph)?,
         PlainReport::Attributes => attributes_text(alloc, &graph, &tree)?,
         PlainReport::Minima => minima_text(alloc, &graph)?,
+        PlainReport::Watershed => watershed_text(alloc, &graph)?,
         PlainReport::Cut(level) => cut_text(alloc, &tree, level)?,
     }))
 }

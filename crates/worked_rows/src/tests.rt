@@ -10,7 +10,7 @@ const TRIANGLE: &str = "graph 3 3\n0 1 1\n1 2 1\n0 2 1\n";
 const PATH: &str = "graph 4 3\n0 1 1\n1 2 5\n2 3 2\n";
 
 /// The reports and inputs that were worked out by hand, and what is written.
-const WORKED: [(&[&str], PlainReport, &str, &str); 24] = [
+const WORKED: [(&[&str], PlainReport, &str, &str); 29] = [
     (
         &["tree"],
         PlainReport::Tree,
@@ -155,6 +155,36 @@ const WORKED: [(&[&str], PlainReport, &str, &str); 24] = [
         "graph 3 1\n0 1 4\n",
         "minima 2 3 1\nv 0 1\nv 1 1\nv 2 2\ne 0 1\n",
     ),
+    (
+        &["watershed"],
+        PlainReport::Watershed,
+        "graph 1 0\n",
+        "watershed 1 1 0 0 0\nv 0 1\n",
+    ),
+    (
+        &["watershed"],
+        PlainReport::Watershed,
+        PATH,
+        "watershed 4 2 1 0 0\nv 0 1\nv 1 1\nv 2 2\nv 3 2\ncut 1\n",
+    ),
+    (
+        &["watershed"],
+        PlainReport::Watershed,
+        "graph 5 4\n0 1 1\n1 2 3\n2 3 3\n3 4 1\n",
+        "watershed 5 2 1 1 3\nv 0 1\nv 1 1\nv 2 1\nv 3 2\nv 4 2\ncut 2\nforest 1\n",
+    ),
+    (
+        &["watershed"],
+        PlainReport::Watershed,
+        "graph 4 3\n0 1 2\n1 2 2\n2 3 1\n",
+        "watershed 4 1 0 2 4\nv 0 1\nv 1 1\nv 2 1\nv 3 1\nforest 0\nforest 1\n",
+    ),
+    (
+        &["watershed"],
+        PlainReport::Watershed,
+        "graph 3 1\n0 1 4\n",
+        "watershed 3 2 0 0 0\nv 0 1\nv 1 1\nv 2 2\n",
+    ),
 ];
 
 #[test]
@@ -250,12 +280,13 @@ fn the_program_writes_the_worked_reports(rt: HostRuntime) -> Result<(), Fail> {
 }
 
 /// Reports that are compared on many graphs, and their words.
-const COMPARED: [(&[&str], PlainReport); 9] = [
+const COMPARED: [(&[&str], PlainReport); 10] = [
     (&["tree"], PlainReport::Tree),
     (&["zones"], PlainReport::Zones),
     (&["saliency"], PlainReport::Saliency),
     (&["attributes"], PlainReport::Attributes),
     (&["minima"], PlainReport::Minima),
+    (&["watershed"], PlainReport::Watershed),
     (&["cut"], PlainReport::Cut(0)),
     (&["cut", "--level", "1"], PlainReport::Cut(1)),
     (&["cut", "--level", "2"], PlainReport::Cut(2)),
@@ -337,10 +368,11 @@ const MADE: [(&[&str], u32, u32); 6] = [
 ];
 
 /// Reports that are compared on made pictures.
-const COMPARED_ON_PICTURES: [(&str, PlainReport); 3] = [
+const COMPARED_ON_PICTURES: [(&str, PlainReport); 4] = [
     ("tree", PlainReport::Tree),
     ("attributes", PlainReport::Attributes),
     ("minima", PlainReport::Minima),
+    ("watershed", PlainReport::Watershed),
 ];
 
 /// Compares the program's reports on a picture that it makes by these words with those of the definitions.

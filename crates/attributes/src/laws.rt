@@ -2,7 +2,6 @@
 ghost use Rattle.std.specs.Prelude.{◌≡◌, ℕ, ◌+◌, ◌*◌, ◌<◌, ◌≤◌, length};
 ghost use Rattle.std.specs.List.{sum_by};
 ghost use Rattle.hg_base.specs.Graph.{WeightedGraph, IsGraph};
-ghost use Rattle.hg_base.specs.Edges.{IsIn};
 ghost use Rattle.hg_base.specs.Tree.{IsAbove, graph_tree};
 ghost use Rattle.attributes.specs.Attributes.{area, floor, vertices, area_of, volume_under, altitude_over};
 

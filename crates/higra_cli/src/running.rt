@@ -23,8 +23,9 @@ use std::alloc::Global;
 use std::thread::Threads;
 
 /// Runs the program: reads the words, then the source to its end, makes the whole report in memory
-/// and writes it to `out`. The tree of the input's graph is made by the request's workers on the board of
-/// its tiles, and Success has the receipt of that board: the workers pass the gate. Where the run is refused, `err` gets the fault line of the status.
+/// and writes it to `out`. The tree of the input's graph is made by the request's workers, which pass
+/// the gate, on the board of its tiles, and Success has the receipt of that board. Where the run is
+/// refused, `err` gets the fault line of the status.
 ///
 /// The refusals come in this order: the words; each read, its failure first and then an input that
 /// is too long; the faults of the input; that it is no picture, has too many tiles, or too many

@@ -8,6 +8,7 @@ pub mod CellLemmas
 pub mod NumberingLaws
 pub mod PlacedTree
 pub mod ListLemmas
+pub mod TurnLemmas
 pub mod ListTree
 pub mod PlannedTree
 pub mod PlannedLots

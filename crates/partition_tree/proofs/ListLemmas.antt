@@ -7,31 +7,17 @@ use Rattle.std.proofs.lemmas.Bool.{cases_order}
 use Rattle.std.proofs.lemmas.Option.{slice_get_cases, slice_get-get_or}
 use Rattle.std.proofs.lemmas.List.Elements.{All-get_or}
 use Rattle.std.proofs.lemmas.List.FromFn.{length-map-range_with_len}
-use Rattle.hg_base.specs.Edges.{ListedEdge, IsIn, IsSameSet, AreApart, AreWithin}
+use Rattle.hg_base.specs.Edges.{ListedEdge, IsIn, AreApart, AreWithin}
 use Rattle.hg_base.specs.Saliency.{AreByWeight}
 use Rattle.hg_base.specs.Placed.{placed}
-use Rattle.border_climb.specs.Stands.{IsNewRank}
 use Rattle.partition_tree.specs.declared.list.Ranked.{Ranked}
-use Rattle.partition_tree.specs.Ranked.{JoinsTwo, IsRankedList, edge_at, edges_of, first_edges}
+use Rattle.partition_tree.specs.Ranked.{JoinsTwo, IsRankedList, edge_at, edges_of}
 
 -- an edge of the list is at a place
 pub record IsPlaced (list : List Ranked) (k : ℕ) (e : ListedEdge) : Type 0 where
   pub at : ℕ
   pub low : at < k
   pub is : edge_at list at ≡ e
-
-pub first-placed : (list : List Ranked) (k : ℕ) (e : ListedEdge) → IsIn e (first_edges list k) → IsPlaced list k e
-first-placed list zero e i = absurd i
-first-placed list (suc k) e (inl same) = record { at = k; low = omega arith; is = same }
-first-placed list (suc k) e (inr later) = let p = first-placed list k e later in record { at = p.at; low = (let l : p.at < k = p.low in omega arith); is = p.is }
-
-pub placed-first : (list : List Ranked) (k : ℕ) (j : ℕ) → j < k → IsIn (edge_at list j) (first_edges list k)
-placed-first list zero j lt = absurd (omega arith)
-placed-first list (suc k) j lt =
-    elim (cases_order j k) [
-      | inl level ↦ inl (ap (edge_at list) (sym level))
-      | inr other ↦ elim other [ inl low ↦ inr (placed-first list k j low) | inr high ↦ absurd (omega arith) ]
-    ]
 
 -- the edges at the places from a on
 range-placed : (list : List Ranked) (a n : ℕ) (e : ListedEdge) → IsIn e (map (edge_at list) (range_with_len a n)) → (j : ℕ) × ((a ≤ j) × ((j < a + n) × (edge_at list j ≡ e)))
@@ -55,17 +41,6 @@ edges-placed list e i = let p = range-placed list 0 (length list) e i in record 
 
 pub placed-edges : (list : List Ranked) (j : ℕ) → j < length list → IsIn (edge_at list j) (edges_of list)
 placed-edges list j lt = placed-range list 0 (length list) j (omega arith) (omega arith)
-
--- the same edges, from the first to the last or the other way
-pub same-edges : (list : List Ranked) → IsSameSet (first_edges list (length list)) (edges_of list)
-same-edges list = record {
-  on = λ e i. (let p = first-placed list (length list) e i in subst (λ (x : ListedEdge). IsIn x (edges_of list)) p.is (placed-edges list p.at p.low));
-  back = λ e i. (let p = edges-placed list e i in subst (λ (x : ListedEdge). IsIn x (first_edges list (length list))) p.is (placed-first list (length list) p.at p.low));
-}
-
-pub length-first : (list : List Ranked) (k : ℕ) → length (first_edges list k) ≡ k
-length-first list zero = refl
-length-first list (suc k) = ap suc (length-first list k)
 
 pub length-edges : (list : List Ranked) → length (edges_of list) ≡ length list
 length-edges list = length-map-range_with_len (edge_at list) 0 (length list)
@@ -133,14 +108,6 @@ edges-by_weight n list h e f i j lt =
     same_default [] k x y low eq = absurd (omega arith)
     same_default (z ∷ zs) zero x y low eq = eq
     same_default (z ∷ zs) (suc k) x y low eq = same_default zs k x y (omega arith) eq
-
--- the rank of the next edge is new
-pub first-new : (list : List Ranked) (k : ℕ) → IsNewRank k (first_edges list k)
-first-new list k e i r =
-    let p = first-placed list k e i in
-    let q : p.at ≡ e.rank = ap (λ (x : ListedEdge). x.rank) p.is in
-    let l : p.at < k = p.low in
-    omega arith
 
 -- the edge at a place, as a part is given it
 pub placed-read : (list : List Ranked) (k : ℕ) (d : Ranked) → k < length list → placed (edge_at list k) ≡ record { rank = k; a = (get_or list k d).u; b = (get_or list k d).v }

@@ -8,27 +8,23 @@ use Rattle.node_region.specs.Pool.{leaf_of, IsUsed, count}
 use Rattle.border_climb.specs.Stands.{PartState, Stands}
 use Rattle.partition_tree.specs.declared.list.Ranked.{Ranked}
 use Rattle.partition_tree.specs.Forest.{IsForest, lists_of}
-use Rattle.partition_tree.specs.Ranked.{IsRankedList, edge_at, edges_of, first_edges}
+use Rattle.partition_tree.specs.Ranked.{IsRankedList, edge_at, edges_of}
 use Rattle.border_climb.specs.Parts.{above_cell}
 use Rattle.border_climb.specs.Splicing.{rank_of}
 use Rattle.partition_tree.specs.Numbering.{AreCells, AreByRank, in_rank, AreNumbers, node_above, inner_parent}
 use Rattle.partition_tree.proofs.CellLemmas.{used-cell, link-is, cell-used, in_rank-few}
 use Rattle.partition_tree.proofs.TreeLemmas.{tree-forest}
-use Rattle.partition_tree.proofs.NumberingLaws.{Stands-same, Stands-cells, IsNumbering, numbering-of, leaf-parents, inner-parents, inner-values}
-use Rattle.partition_tree.proofs.ListLemmas.{same-edges, length-first, length-edges, edges-apart, edges-low, edges-own, edges-within}
+use Rattle.partition_tree.proofs.NumberingLaws.{Stands-cells, IsNumbering, numbering-of, leaf-parents, inner-parents, inner-values}
+use Rattle.partition_tree.proofs.ListLemmas.{edges-apart, edges-low, edges-own, edges-within}
 
 -- a part to which the edges of the list were given, with places from 0 on
 pub record IsGiven (part : PartState) (list : List Ranked) : Type 0 where
   pub first : part.region.first ≡ 0
   pub list_of : IsRankedList (count part.region) list
-  pub stands : Stands part (first_edges list (length list))
-
-pub given-Stands : (part : PartState) (list : List Ranked) → IsGiven part list → Stands part (edges_of list)
-given-Stands part list g =
-    Stands-same part (first_edges list (length list)) (edges_of list) g.stands (edges-apart list) (same-edges list) (length-first list (length list) ∙ sym (length-edges list))
+  pub stands : Stands part (edges_of list)
 
 pub given-cells : (part : PartState) (list : List Ranked) → IsGiven part list → AreCells part (length list)
-given-cells part list g = Stands-cells part (edges_of list) (length list) (given-Stands part list g) g.first g.list_of.vertices (edges-low list)
+given-cells part list g = Stands-cells part (edges_of list) (length list) g.stands g.first g.list_of.vertices (edges-low list)
 
 -- what is noted in rising rank is no more than the list has edges
 pub given-few : (part : PartState) (list : List Ranked) (made : List ℕ) → IsGiven part list → (cells : List (Option ℕ)) × (AreByRank part.region cells × (made ≡ in_rank cells (length list))) → length made ≤ 4194304
@@ -56,7 +52,7 @@ pub made-tree : (part : PartState) (list : List Ranked) (n : ℕ) (made numbers 
 made-tree part list n made numbers parents altitudes makers g is m =
     let s : EdgeList = edges_of list in
     let w : IsNumbering part (edges_of list) (count part.region) made numbers =
-    numbering-of part (edges_of list) (count part.region) (length list) m.noted_in.0 made numbers (given-Stands part list g) (edges-low list) m.noted_in.1.0 m.noted_in.1.1 m.numbers_of in
+    numbering-of part (edges_of list) (count part.region) (length list) m.noted_in.0 made numbers g.stands (edges-low list) m.noted_in.1.0 m.noted_in.1.1 m.numbers_of in
     let p : parents ≡ (tree_of (count part.region) (edges_of list)).parents =
     m.parents_are
     ∙ ap (λ (l : List ℕ). l ++ map (inner_parent (count part.region) part.region made numbers) (range_with_len 0 (length made)))

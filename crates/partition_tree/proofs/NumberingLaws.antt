@@ -4,17 +4,17 @@ use Rattle.std.specs.Prelude.{Option, Some, None, slice_get}
 use Rattle.std.specs.List.{range_with_len}
 use Rattle.std.proofs.lemmas.Option.{slice_get_within}
 use Rattle.std.proofs.lemmas.Bool.{le-ltb}
-use Rattle.hg_base.specs.Edges.{ListedEdge, EdgeList, IsIn, IsSameSet, AreApart, below, joins, chain, next}
+use Rattle.hg_base.specs.Edges.{ListedEdge, EdgeList, IsIn, below, joins, chain, next}
 use Rattle.hg_base.specs.Placed.{ranks}
 use Rattle.hg_base.specs.Tree.{place, node_or}
-use Rattle.hg_base.proofs.Sets.{chain-same, IsIn-joins, IsIn-joins_kept, IsRising-joins}
+use Rattle.hg_base.proofs.Sets.{IsIn-joins, IsIn-joins_kept, IsRising-joins}
 use Rattle.hg_base.proofs.Fronts.{apart-one}
 use Rattle.hg_base.proofs.Paths.{leaving-joins}
 use Rattle.hg_base.proofs.Nodes.{joins-at, joins-index}
 use Rattle.hg_base.proofs.BelowRanks.{below-found, below-missing, below-whole}
 use Rattle.hg_base.proofs.Ends.{next-is}
 use Rattle.node_region.specs.Pool.{CellPool, IsCovered, leaf_of, count}
-use Rattle.border_climb.specs.Stands.{PartState, IsClimb, IsTrace, Stands}
+use Rattle.border_climb.specs.Stands.{PartState, IsClimb, Stands}
 use Rattle.border_climb.specs.Linked.{HasRank, Points, AreLinked}
 use Rattle.border_climb.proofs.Linked.{linked-Stands, own-chain}
 use Rattle.border_climb.specs.Parts.{above_cell}
@@ -218,17 +218,3 @@ inner-values part s n made numbers w f g tells =
         ap (λ (k : ℕ). f (rank_of part.region (get_or made k 0))) index
         ∙ ap f (rank-is part.region (get_or made i 0) h.cell h.is ∙ h.has)
         ∙ tells e (IsIn-joins_kept s e at.0).0
-
--- A part that stands for a list stands for each list of the same edges.
-pub Stands-same : (part : PartState) (s t : EdgeList) → Stands part s → AreApart t → IsSameSet s t → length s ≡ length t → Stands part t
-Stands-same part s t st h same len = record {
-  first_ends = λ e i. st.first_ends e (same.back e i);
-  second_ends = λ e i. st.second_ends e (same.back e i);
-  two_ends = λ e i. st.two_ends e (same.back e i);
-  apart = h;
-  small = λ e i. st.small e (same.back e i);
-  traces = λ x cov. subst (λ (c : EdgeList). IsTrace part x (ranks c)) (chain-same s t x st.apart h same) (st.traces x cov);
-  met = st.met;
-  alone = st.alone;
-  given = st.given ∙ len;
-}

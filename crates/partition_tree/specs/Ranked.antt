@@ -1,5 +1,5 @@
 -- Lists of edges in order, from which trees are made.
-use Rattle.std.specs.Prelude.{◌≢◌, ℕ, zero, suc, ◌<◌, ◌≤◌, List, [], ◌∷◌, length, map, All, slice_get}
+use Rattle.std.specs.Prelude.{◌≢◌, ℕ, ◌<◌, ◌≤◌, List, length, map, All, slice_get}
 use Rattle.std.specs.Option.{option_map_or}
 use Rattle.std.specs.List.{range_with_len}
 use Rattle.hg_base.specs.Edges.{ListedEdge, EdgeList}
@@ -33,8 +33,3 @@ edge_at list k = record {
 -- the edges of a list, with the place as rank, the altitude as weight and `edge` as number
 abbrev pub edges_of : List Ranked → EdgeList
 edges_of list = map (edge_at list) (range_with_len 0 (length list))
-
--- the first k edges of a list, in the order in which they were given, the last in front
-abbrev pub first_edges : List Ranked → ℕ → EdgeList
-first_edges list zero = []
-first_edges list (suc k) = edge_at list k ∷ first_edges list k

@@ -3,6 +3,7 @@
 
 mod children;
 mod climbs;
+mod drawn;
 mod forest;
 mod laws;
 mod list;
@@ -10,6 +11,7 @@ mod numbering;
 mod planned;
 mod report;
 mod tree;
+mod turns;
 
 pub use laws::{tree_is_a_forest, tree_under_other_names};
 pub use list::Ranked;

@@ -6,16 +6,40 @@ use hg_base::{Gate, GateEvent, MemSink, MemSource};
 use std::sync::atomic::{AtomicBool, AtomicU64, Ordering};
 use std::test::Fail;
 
-/// The gate of two workers on a board of two tiles. At its first draw each waits until it sees that the other has
-/// drawn.
+/// A worker that is to meet another: whether it has drawn, and whether it saw that the other has.
+#[derive(Drop)]
+struct Caller {
+    drew: AtomicBool,
+    met: AtomicBool,
+}
+
+impl Caller {
+    fn new() -> Caller {
+        Caller {
+            drew: AtomicBool::new(false),
+            met: AtomicBool::new(false),
+        }
+    }
+
+    /// Waits until the other has drawn, for at most 2^28 turns.
+    fn wait_for(&self, other: &Caller) {
+        for _ in 0..1u32 << 28 {
+            if other.drew.load(Ordering::SeqCst) {
+                self.met.store(true, Ordering::SeqCst);
+                return;
+            }
+        }
+    }
+}
+
+/// The gate of two workers, 0 and 1, on a board of two tiles. At its first draw each waits until it sees that the
+/// other has drawn.
 #[derive(Drop)]
 struct Meeting {
-    /// How often each event was met, by its place; the last place has all other events.
-    met: [AtomicU64; 7],
-    /// Whether each worker has drawn.
-    drew: [AtomicBool; 2],
-    /// Whether each worker saw that the other has drawn.
-    saw: [AtomicBool; 2],
+    first: Caller,
+    second: Caller,
+    /// How often each event came, by its place; the last place has all others.
+    events: [AtomicU64; 7],
 }
 
 /// The place of an event.
@@ -36,35 +60,31 @@ fn place_of(event: GateEvent) -> usize
 impl Meeting {
     fn new() -> Meeting {
         Meeting {
-            met: [const { AtomicU64::new(0) }; 7],
-            drew: [const { AtomicBool::new(false) }; 2],
-            saw: [const { AtomicBool::new(false) }; 2],
-        }
-    }
-
-    /// Waits until the other worker has drawn, for at most 2^28 turns.
-    fn wait_for(&self, own: usize, other: usize)
-        requires own { own < 2 }
-        requires other { other < 2 }
-    {
-        for _ in 0..1 << 28 {
-            if self.drew[other].load(Ordering::SeqCst) {
-                self.saw[own].store(true, Ordering::SeqCst);
-                return;
-            }
+            first: Caller::new(),
+            second: Caller::new(),
+            events: [
+                AtomicU64::new(0),
+                AtomicU64::new(0),
+                AtomicU64::new(0),
+                AtomicU64::new(0),
+                AtomicU64::new(0),
+                AtomicU64::new(0),
+                AtomicU64::new(0),
+            ],
         }
     }
 }
 
 impl Gate for Meeting {
     fn pass(&self, worker: u32, event: GateEvent) {
-        self.met[place_of(event)].fetch_add(1, Ordering::SeqCst);
-        let (GateEvent::Drew(_), 0 | 1) = (event, worker) else {
-            return;
+        self.events[place_of(event)].fetch_add(1, Ordering::SeqCst);
+        let (own, other) = match (event, worker) {
+            (GateEvent::Drew(_), 0) => (&self.first, &self.second),
+            (GateEvent::Drew(_), 1) => (&self.second, &self.first),
+            _ => return,
         };
-        let own = worker as usize;
-        if !self.drew[own].swap(true, Ordering::SeqCst) {
-            self.wait_for(own, 1 - own);
+        if !own.drew.swap(true, Ordering::SeqCst) {
+            own.wait_for(other);
         }
     }
 }
@@ -82,16 +102,11 @@ fn two_workers_meet(rt: HostRuntime) -> Result<(), Fail> {
     assert_eq!(rt; ran.code, 0);
     let want = "tree 7 4\n0 5 0\n1 4 0\n2 4 0\n3 5 0\n4 6 1\n5 6 2\n6 6 5\n";
     assert_eq!(rt; ran.out.taken(), want.as_bytes());
-    for saw in &gate.saw {
-        assert!(rt; saw.load(Ordering::SeqCst), "a worker waited in vain");
-    }
-    let met = [1, 1, 1, 1, 1, 1, 0];
-    for (place, count) in met.iter().enumerate() {
-        assert_eq!(rt;
-            gate.met[place].load(Ordering::SeqCst),
-            *count,
-            "at {place}"
-        );
+    assert!(rt; gate.first.met.load(Ordering::SeqCst));
+    assert!(rt; gate.second.met.load(Ordering::SeqCst));
+    for place in 0..7 {
+        let count = gate.events[place].load(Ordering::SeqCst);
+        assert_eq!(rt; count, u64::from(place < 6), "at {place}");
     }
     Ok(())
 }

@@ -1,4 +1,4 @@
-use Rattle.std.proofs.Common.{ℕ, ◌≤◌, sym, ◌∙◌, ap, subst, All}
+use Rattle.std.proofs.Common.{ℕ, ◌≤◌, sym, ◌∙◌, ap, subst, arith, All}
 use Rattle.std.specs.Prelude.{Option, unwrap_or}
 use Rattle.std.proofs.lemmas.List.Elements.{All-push}
 use Rattle.attributes.specs.Attributes.{area}
@@ -7,7 +7,7 @@ use Rattle.attributes.proofs.leaves.areas.Goals as goal
 
 pub loop-x-preserved : goal.loop-x-preserved
 loop-x-preserved c =
-    let small : c.from.result ≤ 4096 = subst (λ (a : ℕ). a ≤ 4096) (sym c.from.ensures) c.area.ensures.small in
+    let small : c.from.result ≤ 4096 = omega (arith, c.area.ensures.small, c.from.ensures) in
     record {
       so_far = values_more (area c.args.graph.now) c.loop-x.x c.from.result c.loop-x.areas.items _ c.loop-x.invariant.so_far
           (c.from.ensures ∙ ap (λ (o : Option ℕ). unwrap_or o 0) (sym c.area.ensures.area)) c.in_ok-push.ensures.items;

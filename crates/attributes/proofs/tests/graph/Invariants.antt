@@ -1,4 +1,4 @@
-use Rattle.std.proofs.Common.{◌≡◌, All, map, take, ℕ}
+use Rattle.std.proofs.Common.{◌≡◌, All, map, take}
 use Rattle.hg_base.specs.Graph.{JoinsTwo}
 use Rattle.hg_base.specs.Worked.{edge}
 use Rattle.attributes.proofs.tests.graph.Given as goal

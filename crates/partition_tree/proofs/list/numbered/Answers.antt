@@ -1,5 +1,7 @@
-use Rattle.std.proofs.Common.{List, ℕ, vec_len, ◌≡◌, sym, ◌∙◌, ap, subst, arith, length}
-use Rattle.node_region.specs.Pool.{count}
+use Rattle.std.proofs.Common.{map, List, ℕ, vec_len, ◌≡◌, sym, ◌∙◌, ap, subst, arith, length}
+use Rattle.std.specs.List.{range_with_len}
+use Rattle.node_region.specs.Pool.{count, leaf_of}
+use Rattle.partition_tree.specs.Numbering.{node_above}
 use Rattle.partition_tree.specs.Forest.{lists_of}
 use Rattle.partition_tree.proofs.ListTree.{given-cells, given-few, cells-links, written-tree, made-forest}
 use Rattle.std.specs.Prelude.{Result, Ok, Err, IfOk}
@@ -67,7 +69,7 @@ new-requires c =
       first_is = c.deref.ensures.value;
       second_is = c.deref-2.ensures.value;
       len_is = omega (arith, c.deref.ensures.len, ap (λ (l : List ℕ). length l) c.deref.ensures.value);
-      leafs_are = c.in_ok-parents.ensures;
+      leafs_are = subst (λ k. c.in_ok-parents.parents.items ≡ map (λ v. node_above c.in_ok-numbering.numbering.numbers.items v (leaf_of c.args.part.now.region v)) (range_with_len 0 k)) c.count-n.ensures.value c.in_ok-parents.ensures;
       parents_are = c.in_ok-push_inner_parents.ensures;
       altitudes_are = c.in_ok-altitudes.ensures;
       makers_are = c.in_ok-makers.ensures;
@@ -88,7 +90,7 @@ returns-clause-tree c =
       first_is = c.deref.ensures.value;
       second_is = c.deref-2.ensures.value;
       len_is = omega (arith, c.deref.ensures.len, ap (λ (l : List ℕ). length l) c.deref.ensures.value);
-      leafs_are = c.in_ok-parents.ensures;
+      leafs_are = subst (λ k. c.in_ok-parents.parents.items ≡ map (λ v. node_above c.in_ok-numbering.numbering.numbers.items v (leaf_of c.args.part.now.region v)) (range_with_len 0 k)) c.count-n.ensures.value c.in_ok-parents.ensures;
       parents_are = c.in_ok-push_inner_parents.ensures;
       altitudes_are = c.in_ok-altitudes.ensures;
       makers_are = c.in_ok-makers.ensures;
@@ -110,7 +112,7 @@ returns-clause-fronts c =
       first_is = c.deref.ensures.value;
       second_is = c.deref-2.ensures.value;
       len_is = omega (arith, c.deref.ensures.len, ap (λ (l : List ℕ). length l) c.deref.ensures.value);
-      leafs_are = c.in_ok-parents.ensures;
+      leafs_are = subst (λ k. c.in_ok-parents.parents.items ≡ map (λ v. node_above c.in_ok-numbering.numbering.numbers.items v (leaf_of c.args.part.now.region v)) (range_with_len 0 k)) c.count-n.ensures.value c.in_ok-parents.ensures;
       parents_are = c.in_ok-push_inner_parents.ensures;
       altitudes_are = c.in_ok-altitudes.ensures;
       makers_are = c.in_ok-makers.ensures;

@@ -9,3 +9,4 @@ pub mod ReadingLemmas
 pub mod RunningLemmas
 pub mod SpelledLemmas
 pub mod WatershedLemmas
+pub mod SummaryLemmas

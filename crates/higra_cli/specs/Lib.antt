@@ -12,3 +12,4 @@ pub mod Running
 pub mod Spelled
 pub mod Worked
 pub mod Drawing
+pub mod Summary

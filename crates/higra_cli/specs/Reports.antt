@@ -22,6 +22,7 @@ use Rattle.watershed_cut.specs.Report.{minima_report, watershed_report}
 use Rattle.watershed_cut.specs.Rooted.{cost}
 use Rattle.watershed_cut.specs.Watershed.{watershed_of}
 use Rattle.higra_cli.specs.Inputs.{graph_of}
+use Rattle.higra_cli.specs.Summary.{summary_of, summary_report}
 use Rattle.higra_cli.specs.declared.request.Form.{Form}
 use Rattle.higra_cli.specs.declared.request.Form.TheVariants as forms
 use Rattle.higra_cli.specs.declared.request.Report.{Report}
@@ -44,6 +45,7 @@ labels_of reports.Saliency g = record { labels = []; count = 0 }
 labels_of reports.Attributes g = record { labels = []; count = 0 }
 labels_of reports.Minima g = record { labels = []; count = 0 }
 labels_of reports.Watershed g = (watershed_of g).labels
+labels_of reports.Summary g = record { labels = []; count = 0 }
 labels_of (reports.Cut None level) g = regions g level
 labels_of (reports.Cut (Some kind) level) g = record { labels = []; count = 0 }
 
@@ -55,6 +57,7 @@ text_of reports.Saliency g = saliency_report (saliencies g)
 text_of reports.Attributes g = attributes_report (attributes_of g)
 text_of reports.Minima g = minima_report (minima_of g)
 text_of reports.Watershed g = watershed_report (watershed_of g) (minima_of g).count (cost g (forest g))
+text_of reports.Summary g = summary_report (summary_of g)
 text_of (reports.Cut kind level) g = labels_report (labels_of (reports.Cut kind level) g)
 
 -- the picture of a report about an input: the labels of a picture's pixels

@@ -92,7 +92,8 @@ report_by line =
     else (if bytes_eq line.report (codes "attributes") then alone line reports.Attributes
     else (if bytes_eq line.report (codes "minima") then alone line reports.Minima
     else (if bytes_eq line.report (codes "watershed") then alone line reports.Watershed
-    else (if bytes_eq line.report (codes "cut") then cut_by line else None))))))
+    else (if bytes_eq line.report (codes "summary") then alone line reports.Summary
+    else (if bytes_eq line.report (codes "cut") then cut_by line else None)))))))
 
 -- whether a report can be drawn as a picture: a watershed or a cut, whose labels are its samples
 abbrev pub can_be_drawn : Report → Bool
@@ -102,6 +103,7 @@ can_be_drawn reports.Saliency = false
 can_be_drawn reports.Attributes = false
 can_be_drawn reports.Minima = false
 can_be_drawn reports.Watershed = true
+can_be_drawn reports.Summary = false
 can_be_drawn (reports.Cut kind level) = true
 
 -- the form with this name, where the report can have it

@@ -43,6 +43,7 @@ CutsOwn reports.Saliency = Unit {0}
 CutsOwn reports.Attributes = Unit {0}
 CutsOwn reports.Minima = Unit {0}
 CutsOwn reports.Watershed = Unit {0}
+CutsOwn reports.Summary = Unit {0}
 CutsOwn (reports.Cut kind level) = kind ≡ None
 
 -- what a report may be asked for

@@ -103,8 +103,12 @@ fn draw_report(
     match report {
         Report::Watershed => draw_watershed(alloc, graph, order, tree, picture),
         Report::Cut(_, level) => draw_regions(alloc, tree, level, picture),
-        Report::Tree | Report::Zones | Report::Saliency | Report::Attributes | Report::Minima =>
-            unreachable!(),
+        Report::Tree
+        | Report::Zones
+        | Report::Saliency
+        | Report::Attributes
+        | Report::Minima
+        | Report::Summary => unreachable!(),
     }
 }
 

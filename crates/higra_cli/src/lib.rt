@@ -14,6 +14,7 @@ mod planning;
 mod reading;
 mod request;
 mod running;
+mod summary;
 mod words;
 mod writing;
 

@@ -38,6 +38,8 @@ pub enum Report {
     Minima,
     /// The watershed cut of the graph: the label of each vertex, the edges of the cut and those of the forest.
     Watershed,
+    /// Counts and sums of what the other reports write one by one.
+    Summary,
     /// The regions of a tree at a level: of the graph's own tree, or of its hierarchical watershed by a kind.
     Cut(Option<Kind>, u64),
 }
@@ -147,6 +149,7 @@ fn report_by(given: &Given) -> Option<Report>
         "attributes" => alone(given, Report::Attributes),
         "minima" => alone(given, Report::Minima),
         "watershed" => alone(given, Report::Watershed),
+        "summary" => alone(given, Report::Summary),
         "cut" => cut_by(given),
         _ => None,
     }

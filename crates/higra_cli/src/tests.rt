@@ -279,7 +279,7 @@ fn asks_for_nothing(
 
 #[test]
 fn words_that_give_no_request(rt: HostRuntime) -> Result<(), Fail> {
-    let rows: [&[&str]; 45] = [
+    let rows: [&[&str]; 47] = [
         &[],
         &[""],
         &["forest"],
@@ -316,6 +316,8 @@ fn words_that_give_no_request(rt: HostRuntime) -> Result<(), Fail> {
         &["attributes", "--form", "pgm"],
         &["minima", "--kind", "altitude"],
         &["minima", "--form", "pgm"],
+        &["watershed", "--level", "0"],
+        &["summary", "--form", "pgm"],
         &["hierarchical", "--kind", "altitude"],
         &["cut", "--level", "1x"],
         &["tree", "--report", "tree"],

@@ -3,7 +3,7 @@
 ghost use Rattle.std.specs.Prelude.{◌≡◌, [], ◌∷◌, Some, None, codes};
 ghost use Rattle.higra_cli.specs.Command.{given_by, requested};
 ghost use Rattle.higra_cli.specs.Worked.{only, text_in, tree_in};
-ghost use Rattle.higra_cli.specs.declared.request.Report.TheVariants.{Attributes, Minima};
+ghost use Rattle.higra_cli.specs.declared.request.Report.TheVariants.{Attributes, Minima, Summary, Watershed};
 
 // An option stands before the report or behind it; its text is the next word, or what follows a `=`. A `--` alone counts for nothing.
 #[tactic(auto, unfolding(clap::proofs::OnLiterals::clap_on_literals, crate::specs::Command::higra, crate::specs::Command::rows_on, crate::specs::Command::with_option, crate::specs::Command::with_report))]
@@ -52,6 +52,8 @@ fn requests()
     ensures form { requested (codes "tree" ∷ codes "--workers=1" ∷ codes "--form" ∷ codes "text" ∷ []) ≡ Some (tree_in 64 1) }
     ensures attributes { requested (codes "attributes" ∷ codes "--tile" ∷ codes "8" ∷ []) ≡ Some (text_in 8 4 Attributes) }
     ensures minima { requested (codes "--form=text" ∷ codes "minima" ∷ []) ≡ Some (text_in 64 4 Minima) }
+    ensures watershed { requested (codes "watershed" ∷ codes "--workers" ∷ codes "2" ∷ []) ≡ Some (text_in 64 2 Watershed) }
+    ensures summary { requested (codes "summary" ∷ []) ≡ Some (text_in 64 4 Summary) }
 {}
 
 // A text out of its row, and an option that the report doesn't take, ask for nothing.

@@ -25,6 +25,7 @@ use super::input::Input;
 use super::merging::tree_of;
 use super::planning::{Planned, plan_edges, plan_pixels};
 use super::request::{Form, Report, Request};
+use super::summary::{summary_of, write_summary};
 use attributes::{Attributes, write_attributes};
 use edge_order::Order;
 use forest_witness::witness;
@@ -164,6 +165,7 @@ fn text_of(
         Report::Attributes => attributes_text(alloc, graph, tree),
         Report::Minima => minima_text(alloc, graph, order, tree),
         Report::Watershed => watershed_text(alloc, graph, order, tree),
+        Report::Summary => write_summary(alloc, &summary_of(alloc, graph, order, tree)?),
         Report::Cut(_, level) => regions_text(alloc, tree, level),
     }
 }

@@ -170,6 +170,18 @@ fn a_graph_that_is_no_picture(rt: HostRuntime) -> Result<(), Fail> {
     Ok(())
 }
 
+// Three pixels are in the one minimum, and the tree at it has the fourth.
+#[test]
+fn a_picture_of_a_watershed(rt: HostRuntime) -> Result<(), Fail> {
+    let words = ["watershed", "--form", "pgm"];
+    let ran = run_well(&rt, rt.alloc(), &words, PICTURE.as_bytes())?;
+    is_as_wanted(&rt, &ran, 0, b"P5\n2 2\n1\n\x01\x01\x01\x01", b"");
+    let refused = run_well(&rt, rt.alloc(), &words, PATH.as_bytes())?;
+    let line = b"higra: input 11 NotAPicture at 0 value 0\n";
+    is_as_wanted(&rt, &refused, 3, b"", line);
+    Ok(())
+}
+
 /// The edge list of two vertices with the most edges that there may be, written as so many lines.
 fn parallel_edges(alloc: Global, lines: u32) -> Result<Vec<u8>, AllocError> {
     let mut bytes = Vec::from_slice(alloc, b"graph 2 4194304\n")?;

@@ -22,6 +22,8 @@ pub enum PlainReport {
     Minima,
     /// The watershed cut.
     Watershed,
+    /// Counts and sums of the others.
+    Summary,
     /// The regions of the tree at a level.
     Cut(u64),
 }
@@ -112,6 +114,49 @@ fn watershed_text(alloc: Global, graph: &PlainGraph) -> Result<String, AllocErro
     Ok(text)
 }
 
+/// The sum of numbers. Nothing here is large enough to be cut off.
+fn sum(numbers: &[u64]) -> u64 {
+    let mut sum = 0_u64;
+    for number in numbers {
+        sum = sum.saturating_add(*number);
+    }
+    sum
+}
+
+/// The greatest altitude of a tree.
+fn root_altitude(tree: &PlainTree) -> u64 {
+    let mut greatest = 0;
+    for node in &tree.nodes {
+        if node.altitude > greatest {
+            greatest = node.altitude;
+        }
+    }
+    greatest
+}
+
+/// The text of the summary of a graph.
+fn summary_text(alloc: Global, graph: &PlainGraph, tree: &PlainTree) -> Result<String, AllocError> {
+    let minima = minima_of(alloc, graph)?;
+    let watershed = watershed_of(alloc, graph, &minima)?;
+    let lines = [
+        ("vertices", graph.n),
+        ("edges", graph.edges.len() as u64),
+        ("nodes", tree.nodes.len() as u64),
+        ("zones", zones_of(alloc, tree)?.nodes.len() as u64),
+        ("root", root_altitude(tree)),
+        ("saliency", sum(&saliencies(alloc, graph)?)),
+        ("minima", minima.count as u64),
+        ("forest", watershed.forest.len() as u64),
+        ("weight", watershed.weight),
+        ("cut", watershed.cut.len() as u64),
+    ];
+    let mut text = String::new(alloc);
+    for (word, number) in lines {
+        writeln!(text, "{word} {number}")?;
+    }
+    Ok(text)
+}
+
 /// The text of the regions of a tree at a level. A region's label is 1 and the number of regions with a lesser least
 /// vertex, so it counts the region itself with those.
 fn cut_text(alloc: Global, tree: &PlainTree, level: u64) -> Result<String, AllocError> {
@@ -143,6 +188,7 @@ pub fn report_of(
         PlainReport::Attributes => attributes_text(alloc, &graph, &tree)?,
         PlainReport::Minima => minima_text(alloc, &graph)?,
         PlainReport::Watershed => watershed_text(alloc, &graph)?,
+        PlainReport::Summary => summary_text(alloc, &graph, &tree)?,
         PlainReport::Cut(level) => cut_text(alloc, &tree, level)?,
     }))
 }

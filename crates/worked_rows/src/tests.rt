@@ -280,13 +280,14 @@ fn the_program_writes_the_worked_reports(rt: HostRuntime) -> Result<(), Fail> {
 }
 
 /// Reports that are compared on many graphs, and their words.
-const COMPARED: [(&[&str], PlainReport); 10] = [
+const COMPARED: [(&[&str], PlainReport); 11] = [
     (&["tree"], PlainReport::Tree),
     (&["zones"], PlainReport::Zones),
     (&["saliency"], PlainReport::Saliency),
     (&["attributes"], PlainReport::Attributes),
     (&["minima"], PlainReport::Minima),
     (&["watershed"], PlainReport::Watershed),
+    (&["summary"], PlainReport::Summary),
     (&["cut"], PlainReport::Cut(0)),
     (&["cut", "--level", "1"], PlainReport::Cut(1)),
     (&["cut", "--level", "2"], PlainReport::Cut(2)),
@@ -368,11 +369,12 @@ const MADE: [(&[&str], u32, u32); 6] = [
 ];
 
 /// Reports that are compared on made pictures.
-const COMPARED_ON_PICTURES: [(&str, PlainReport); 4] = [
+const COMPARED_ON_PICTURES: [(&str, PlainReport); 5] = [
     ("tree", PlainReport::Tree),
     ("attributes", PlainReport::Attributes),
     ("minima", PlainReport::Minima),
     ("watershed", PlainReport::Watershed),
+    ("summary", PlainReport::Summary),
 ];
 
 /// Compares the program's reports on a picture that it makes by these words with those of the definitions.
@@ -407,5 +409,43 @@ fn a_made_picture(rt: HostRuntime) -> Result<(), Fail> {
     let picture = made_picture(rt.alloc(), 2, 1)?;
     let want = "graph 4 4\n0 1 34\n0 2 69\n1 3 86\n2 3 51\n";
     assert_eq!(rt; picture.as_str(), want);
+    Ok(())
+}
+
+// The weights of the picture's edges are 34, 69, 86 and 51.
+#[test]
+fn the_summary_of_a_made_picture(rt: HostRuntime) -> Result<(), Fail> {
+    let words = ["summary", "--make", "2", "--seed", "1"];
+    let ran = run_well(&rt, rt.alloc(), &words, b"")?;
+    let want =
+        "vertices 4\nedges 4\nnodes 7\nzones 7\nroot 69\nsaliency 223\nminima 2\nforest 0\nweight 0\ncut 2\n";
+    assert_eq!(rt; ran.code, 0);
+    assert_eq!(rt; ran.out.taken(), want.as_bytes());
+    Ok(())
+}
+
+/// The summary of a made picture of 128 by 128 pixels, with a tiling.
+fn run_on_128<'a>(
+    rt: &(impl Threads + Sync),
+    alloc: Global,
+    tiling: &[&'a str],
+) -> Result<Ran, Fail> {
+    let words = ["summary", "--make", "128", "--seed", "1"];
+    run_tiled(rt, alloc, &words, tiling, "")
+}
+
+#[test]
+fn a_summary_is_the_same_with_other_tiles(rt: HostRuntime) -> Result<(), Fail> {
+    let tiled = run_on_128(&rt, rt.alloc(), &["--tile", "32", "--workers", "4"])?;
+    let whole = run_on_128(&rt, rt.alloc(), &["--tile", "128", "--workers", "1"])?;
+    assert_eq!(rt; tiled.code, 0);
+    assert_eq!(rt; whole.code, 0);
+    assert_eq!(rt; tiled.out.taken(), whole.out.taken());
+    assert!(rt;
+        tiled
+            .out
+            .taken()
+            .starts_with(b"vertices 16384\nedges 32512\n")
+    );
     Ok(())
 }

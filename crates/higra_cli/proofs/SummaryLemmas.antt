@@ -1,11 +1,11 @@
 -- The numbers of a summary.
-use Rattle.std.proofs.Common.{◌≡◌, ℕ, ◌+◌, ◌*◌, ◌<◌, ◌≤◌, inl, refl, sym, ap, ◌∙◌, subst, arith, List, [], ◌∷◌, get_or, length, take, take_all}
+use Rattle.std.proofs.Common.{◌≡◌, ℕ, ◌+◌, ◌<◌, ◌≤◌, inl, refl, sym, ap, ◌∙◌, arith, List, [], ◌∷◌, get_or, length, take, take_all}
 use Rattle.std.specs.Prelude.{fold, max, nat_le, sum}
 use Rattle.std.proofs.lemmas.Bool.{le-leb}
 use Rattle.std.proofs.lemmas.List.FromFn.{get_or-map-range_with_len, length-map-range_with_len}
 use Rattle.std.proofs.lemmas.List.Sums.{fold_more, sum_by_more}
 use Rattle.std.proofs.lemmas.Option.{unwrap_or-slice_get}
-use Rattle.hg_base.specs.Edges.{ListedEdge, IsIn, Joined}
+use Rattle.hg_base.specs.Edges.{ListedEdge, Joined}
 use Rattle.hg_base.specs.Graph.{WeightedGraph, first_end, second_end, weight}
 use Rattle.hg_base.specs.Rank.{listed, rank, ranked}
 use Rattle.hg_base.specs.Saliencies.{saliencies, saliency}

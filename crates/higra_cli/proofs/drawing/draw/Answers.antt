@@ -1,4 +1,4 @@
-use Rattle.std.proofs.Common.{◌≡◌, ◌*◌, ℕ, ap, ◌∙◌, rules}
+use Rattle.std.proofs.Common.{◌*◌, ℕ, ap, ◌∙◌, rules}
 use Rattle.label_writer.specs.Report.{labels_picture}
 use Rattle.higra_cli.proofs.DrawingLemmas.{few_labels, many_labels}
 use Rattle.higra_cli.proofs.drawing.draw.Goals as goal

@@ -1,9 +1,8 @@
-use Rattle.std.proofs.Common.{◌≡◌, ℕ, Err, ap, refl, subst, sym, ◌∙◌}
+use Rattle.std.proofs.Common.{◌≡◌, ℕ, Err, ap, subst, sym, ◌∙◌}
 use Rattle.std.specs.Prelude.{Result, Vec}
 use Rattle.std.specs.declared.alloc.Global.{Global}
 use Rattle.std.proofs.lemmas.Result.{err_from_is_err_and}
 use Rattle.edge_order.specs.Order.{order_of}
-use Rattle.hg_base.specs.Graph.{WeightedGraph}
 use Rattle.merge_board.specs.Seats.{ReceiptState}
 use Rattle.higra_cli.proofs.DrawingLemmas.{drawn_fault, drawn_report}
 use Rattle.higra_cli.proofs.OrderedLemmas.{is_hierarchy}

@@ -1,4 +1,4 @@
-use Rattle.std.proofs.Common.{◌≡◌, ◌≤◌, arith, length}
+use Rattle.std.proofs.Common.{◌≤◌, arith, length}
 use Rattle.higra_cli.proofs.SummaryLemmas.{total_all, values_length}
 use Rattle.higra_cli.proofs.summary.total.Goals as goal
 

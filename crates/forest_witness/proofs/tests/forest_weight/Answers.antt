@@ -1,4 +1,4 @@
-use Rattle.std.proofs.Common.{◌≡◌, sym, ◌∙◌, ap}
+use Rattle.std.proofs.Common.{sym, ◌∙◌, ap}
 use Rattle.hg_base.specs.Tree.{tree_of, graph_tree}
 use Rattle.forest_witness.proofs.tests.forest_weight.Goals as goal
 

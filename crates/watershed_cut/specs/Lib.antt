@@ -1,0 +1,11 @@
+pub mod Minima
+pub mod MinimumTests
+pub mod MinimumLabels
+pub mod Forest
+pub mod Rooted
+pub mod Watershed
+pub mod Report
+pub mod MinimaFields
+pub mod Passes
+pub mod TreePasses
+pub mod WatershedFields

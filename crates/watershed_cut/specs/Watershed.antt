@@ -1,0 +1,36 @@
+-- The watershed cut of a graph: between the trees of its forest (Cousty and others, Watershed Cuts, 2009).
+use Rattle.std.specs.Prelude.{ℕ, ◌==◌, Bool, not, ◌&&◌, List, map, filter, find, unwrap_or}
+use Rattle.std.specs.List.{range_with_len, list_any}
+use Rattle.hg_base.specs.Graph.{WeightedGraph, first_end, second_end}
+use Rattle.hg_base.specs.Edges.{EdgeList, joined}
+use Rattle.hg_base.specs.Rank.{numbers, ranked}
+use Rattle.hg_base.specs.Labels.{Labelling}
+use Rattle.watershed_cut.specs.MinimumTests.{minimum_count, vertex_label}
+use Rattle.watershed_cut.specs.Forest.{trees, forest}
+
+-- the trees join x to a vertex of the minimum with this label
+abbrev pub reaches_label : ℕ → EdgeList → ℕ → ℕ → Bool
+reaches_label n s x l = list_any (λ y. joined (trees n s) x y && (vertex_label n s y == l)) (range_with_len 0 n)
+
+-- the least label of a minimum to which the trees join x, or 0 where there is none
+abbrev pub tree_label : ℕ → EdgeList → ℕ → ℕ
+tree_label n s x = unwrap_or (find (reaches_label n s x) (range_with_len 1 (minimum_count n s))) 0
+
+-- the label of each vertex; there are as many labels as minima
+abbrev pub tree_labelling : WeightedGraph → Labelling
+tree_labelling g = record { labels = map (tree_label g.n (ranked g)) (range_with_len 0 g.n); count = minimum_count g.n (ranked g) }
+
+-- the ends of edge number e have different labels
+abbrev pub is_cut : WeightedGraph → ℕ → Bool
+is_cut g e = not (tree_label g.n (ranked g) (first_end g e) == tree_label g.n (ranked g) (second_end g e))
+
+-- a watershed cut as contracts see it: the labels of the vertices, and the numbers of the cut edges and of the
+-- forest's edges, rising
+pub record WatershedCut : Type 0 where
+  pub labels : Labelling
+  pub cut : List ℕ
+  pub forest : List ℕ
+
+-- the watershed cut of a graph
+abbrev pub watershed_of : WeightedGraph → WatershedCut
+watershed_of g = record { labels = tree_labelling g; cut = filter (is_cut g) (numbers g); forest = forest g }

@@ -1,6 +1,8 @@
 -- Which bytes a report about an input has.
 use Rattle.std.specs.Prelude.{◌≡◌, ℕ, nat_lt, if◌then◌else◌, List, [], length, Option, Some, None, Result, Ok, Err, Vec}
 use Rattle.std.specs.declared.alloc.Global.{Global}
+use Rattle.attributes.specs.Attributes.{attributes_of}
+use Rattle.attributes.specs.Report.{attributes_report}
 use Rattle.hg_base.specs.Graph.{WeightedGraph}
 use Rattle.hg_base.specs.Labels.{Labelling, labelling}
 use Rattle.hg_base.specs.Levels.{shares}
@@ -14,6 +16,8 @@ use Rattle.merge_board.specs.Seats.{ReceiptState}
 use Rattle.partition_tree.specs.Report.{tree_report}
 use Rattle.saliency.specs.Report.{saliency_report}
 use Rattle.tile_plan.specs.Plan.{TilePlan, blocks, squares, tile_count}
+use Rattle.watershed_cut.specs.MinimumLabels.{minima_of}
+use Rattle.watershed_cut.specs.Report.{minima_report}
 use Rattle.higra_cli.specs.Inputs.{graph_of}
 use Rattle.higra_cli.specs.declared.request.Form.{Form}
 use Rattle.higra_cli.specs.declared.request.Form.TheVariants as forms
@@ -34,6 +38,8 @@ abbrev pub labels_of : Report → WeightedGraph → Labelling
 labels_of reports.Tree g = record { labels = []; count = 0 }
 labels_of reports.Zones g = record { labels = []; count = 0 }
 labels_of reports.Saliency g = record { labels = []; count = 0 }
+labels_of reports.Attributes g = record { labels = []; count = 0 }
+labels_of reports.Minima g = record { labels = []; count = 0 }
 labels_of (reports.Cut None level) g = regions g level
 labels_of (reports.Cut (Some kind) level) g = record { labels = []; count = 0 }
 
@@ -42,6 +48,8 @@ unfoldable pub text_of : Report → WeightedGraph → List ℕ
 text_of reports.Tree g = tree_report (graph_tree g)
 text_of reports.Zones g = tree_report (zones_of (graph_tree g))
 text_of reports.Saliency g = saliency_report (saliencies g)
+text_of reports.Attributes g = attributes_report (attributes_of g)
+text_of reports.Minima g = minima_report (minima_of g)
 text_of (reports.Cut kind level) g = labels_report (labels_of (reports.Cut kind level) g)
 
 -- the picture of a report about an input: the labels of a picture's pixels

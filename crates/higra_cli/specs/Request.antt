@@ -89,13 +89,17 @@ report_by line =
     if bytes_eq line.report (codes "tree") then alone line reports.Tree
     else (if bytes_eq line.report (codes "zones") then alone line reports.Zones
     else (if bytes_eq line.report (codes "saliency") then alone line reports.Saliency
-    else (if bytes_eq line.report (codes "cut") then cut_by line else None)))
+    else (if bytes_eq line.report (codes "attributes") then alone line reports.Attributes
+    else (if bytes_eq line.report (codes "minima") then alone line reports.Minima
+    else (if bytes_eq line.report (codes "cut") then cut_by line else None)))))
 
 -- whether a report can be drawn as a picture: a cut, whose labels are its samples
 abbrev pub can_be_drawn : Report → Bool
 can_be_drawn reports.Tree = false
 can_be_drawn reports.Zones = false
 can_be_drawn reports.Saliency = false
+can_be_drawn reports.Attributes = false
+can_be_drawn reports.Minima = false
 can_be_drawn (reports.Cut kind level) = true
 
 -- the form with this name, where the report can have it

@@ -35,6 +35,8 @@ abbrev pub CutsOwn : Report → Type 0
 CutsOwn reports.Tree = Unit {0}
 CutsOwn reports.Zones = Unit {0}
 CutsOwn reports.Saliency = Unit {0}
+CutsOwn reports.Attributes = Unit {0}
+CutsOwn reports.Minima = Unit {0}
 CutsOwn (reports.Cut kind level) = kind ≡ None
 
 -- what a report may be asked for

@@ -47,7 +47,8 @@ pub(crate) fn picture_about<G: Gate>(
         Input::Edges(_) => Err(RunFault::Input(NOT_A_PICTURE)),
         Input::Picture(picture) => match request.report {
             Report::Cut(_, level) => regions_picture(rt, alloc, request, picture, level, gate),
-            Report::Tree | Report::Zones | Report::Saliency => unreachable!(),
+            Report::Tree | Report::Zones | Report::Saliency | Report::Attributes | Report::Minima =>
+                unreachable!(),
         },
     }
 }

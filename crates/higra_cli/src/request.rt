@@ -32,6 +32,10 @@ pub enum Report {
     Zones,
     /// The saliency of each edge.
     Saliency,
+    /// The area, the volume and the dynamics of each node of the tree.
+    Attributes,
+    /// The minima of the graph: the label of each vertex and of each edge.
+    Minima,
     /// The regions of a tree at a level: of the graph's own tree, or of its hierarchical watershed by a kind.
     Cut(Option<Kind>, u64),
 }
@@ -138,6 +142,8 @@ fn report_by(given: &Given) -> Option<Report>
         "tree" => alone(given, Report::Tree),
         "zones" => alone(given, Report::Zones),
         "saliency" => alone(given, Report::Saliency),
+        "attributes" => alone(given, Report::Attributes),
+        "minima" => alone(given, Report::Minima),
         "cut" => cut_by(given),
         _ => None,
     }

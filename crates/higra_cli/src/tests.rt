@@ -279,7 +279,7 @@ fn asks_for_nothing(
 
 #[test]
 fn words_that_give_no_request(rt: HostRuntime) -> Result<(), Fail> {
-    let rows: [&[&str]; 41] = [
+    let rows: [&[&str]; 45] = [
         &[],
         &[""],
         &["forest"],
@@ -312,6 +312,10 @@ fn words_that_give_no_request(rt: HostRuntime) -> Result<(), Fail> {
         &["tree", "--make", "0"],
         &["tree", "--make", "1025"],
         &["tree", "--make", "2", "--seed", "4294967296"],
+        &["attributes", "--level", "0"],
+        &["attributes", "--form", "pgm"],
+        &["minima", "--kind", "altitude"],
+        &["minima", "--form", "pgm"],
         &["hierarchical", "--kind", "altitude"],
         &["cut", "--level", "1x"],
         &["tree", "--report", "tree"],

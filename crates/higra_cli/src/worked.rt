@@ -2,7 +2,8 @@
 //! So they show what the definition says to someone who doesn't know `clap`; no code runs.
 ghost use Rattle.std.specs.Prelude.{◌≡◌, [], ◌∷◌, Some, None, codes};
 ghost use Rattle.higra_cli.specs.Command.{given_by, requested};
-ghost use Rattle.higra_cli.specs.Worked.{only, tree_in};
+ghost use Rattle.higra_cli.specs.Worked.{only, text_in, tree_in};
+ghost use Rattle.higra_cli.specs.declared.request.Report.TheVariants.{Attributes, Minima};
 
 // An option stands before the report or behind it; its text is the next word, or what follows a `=`. A `--` alone counts for nothing.
 #[tactic(auto, unfolding(clap::proofs::OnLiterals::clap_on_literals, crate::specs::Command::higra, crate::specs::Command::rows_on, crate::specs::Command::with_option, crate::specs::Command::with_report))]
@@ -49,6 +50,8 @@ fn requests()
     ensures twenty { requested (codes "tree" ∷ codes "--tile" ∷ codes "00000000000000000008" ∷ []) ≡ Some (tree_in 8 4) }
     ensures most { requested (codes "tree" ∷ codes "--tile" ∷ codes "1048576" ∷ codes "--workers" ∷ codes "64" ∷ []) ≡ Some (tree_in 1048576 64) }
     ensures form { requested (codes "tree" ∷ codes "--workers=1" ∷ codes "--form" ∷ codes "text" ∷ []) ≡ Some (tree_in 64 1) }
+    ensures attributes { requested (codes "attributes" ∷ codes "--tile" ∷ codes "8" ∷ []) ≡ Some (text_in 8 4 Attributes) }
+    ensures minima { requested (codes "--form=text" ∷ codes "minima" ∷ []) ≡ Some (text_in 64 4 Minima) }
 {}
 
 // A text out of its row, and an option that the report doesn't take, ask for nothing.
@@ -63,6 +66,9 @@ fn refused_texts()
     ensures level { requested (codes "tree" ∷ codes "--level" ∷ codes "0" ∷ []) ≡ None }
     ensures kind { requested (codes "tree" ∷ codes "--kind" ∷ codes "altitude" ∷ []) ≡ None }
     ensures seed { requested (codes "tree" ∷ codes "--seed" ∷ codes "4" ∷ []) ≡ None }
+    ensures level_of_attributes { requested (codes "attributes" ∷ codes "--level" ∷ codes "0" ∷ []) ≡ None }
+    ensures kind_of_minima { requested (codes "minima" ∷ codes "--kind" ∷ codes "altitude" ∷ []) ≡ None }
+    ensures picture_of_minima { requested (codes "minima" ∷ codes "--form" ∷ codes "pgm" ∷ []) ≡ None }
 {}
 
 #[test]

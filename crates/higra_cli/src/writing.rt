@@ -1,10 +1,16 @@
 // Making a report.
 ghost use Rattle.std.specs.Prelude.{◌≡◌, IfOk};
+ghost use Rattle.attributes.specs.Attributes.{attributes_of};
+ghost use Rattle.attributes.specs.Report.{attributes_report};
+ghost use Rattle.edge_order.specs.Order.{order_of};
 ghost use Rattle.hg_base.specs.Labels.{labelling};
 ghost use Rattle.hg_base.specs.Levels.{AltitudesRise, shares};
 ghost use Rattle.label_writer.specs.Report.{labels_report};
 ghost use Rattle.hg_base.specs.Zones.{zones_of};
+ghost use Rattle.hg_base.specs.Tree.{graph_tree};
 ghost use Rattle.partition_tree.specs.Report.{tree_report};
+ghost use Rattle.watershed_cut.specs.MinimumLabels.{minima_of};
+ghost use Rattle.watershed_cut.specs.Report.{minima_report};
 ghost use Rattle.higra_cli.specs.Inputs.{graph_of};
 ghost use Rattle.higra_cli.specs.Ordered.{IsTreeOf};
 ghost use Rattle.higra_cli.specs.Planning.{IsPlanOver, receipt_over};
@@ -16,6 +22,8 @@ use super::input::Input;
 use super::merging::tree_of;
 use super::planning::{Planned, plan_edges, plan_pixels};
 use super::request::{Form, Report, Request};
+use attributes::{Attributes, write_attributes};
+use edge_order::Order;
 use hg_base::{Gate, Graph, InputFault, OutOfMemory};
 use label_writer::write_labels;
 use merge_board::Receipt;
@@ -25,6 +33,7 @@ use quasi_flat_zones::zones;
 use saliency::{cut, saliency, write_saliency};
 use std::alloc::{AllocError, Global};
 use std::thread::Threads;
+use watershed_cut::{Minima, write_minima};
 
 /// Why no report was made.
 #[derive(Clone, Copy, Debug, PartialEq, Eq)]
@@ -125,19 +134,21 @@ fn text<G: Gate>(
     ensures hierarchy { IfOk result (λ _. IsHierarchy graph.now) }
 {
     let (tree, receipt) = tree_of(rt, alloc, planned, request.workers, gate)?;
-    let text = text_of(alloc, request.report, graph, &tree)?;
+    let text = text_of(alloc, request.report, graph, &planned.order, &tree)?;
     Ok((text, receipt))
 }
 
-// The text of a report about a graph, whose tree this is.
+// The text of a report about a graph, whose order and tree these are.
 #[tactic(auto, using(crate::proofs::OrderedLemmas::is_hierarchy, crate::proofs::OrderedLemmas::shared_roots), unfolding(crate::specs::Reports::text_of))]
 fn text_of(
     alloc: Global,
     report: Report,
     graph: &Graph,
+    order: &Order,
     tree: &Tree,
 ) -> Result<Vec<u8>, OutOfMemory>
     requires own { CutsOwn report }
+    requires order { order.now ≡ order_of graph.now }
     requires tree { IsTreeOf graph.now tree.now }
     ensures text { IfOk result (λ text. text.items ≡ text_of report graph.now) }
     ensures hierarchy { IfOk result (λ _. IsHierarchy graph.now) }
@@ -146,6 +157,8 @@ fn text_of(
         Report::Tree => write_tree(alloc, tree),
         Report::Zones => zones_text(alloc, tree),
         Report::Saliency => write_saliency(alloc, &saliency(alloc, graph, tree)?),
+        Report::Attributes => attributes_text(alloc, graph, tree),
+        Report::Minima => minima_text(alloc, graph, order, tree),
         Report::Cut(_, level) => regions_text(alloc, tree, level),
     }
 }
@@ -156,6 +169,28 @@ fn zones_text(alloc: Global, tree: &Tree) -> Result<Vec<u8>, OutOfMemory>
     ensures { IfOk result (λ text. text.items ≡ tree_report (zones_of tree.now)) }
 {
     write_tree(alloc, &zones(alloc, tree)?)
+}
+
+// The text of the attributes of the nodes of a graph's tree.
+fn attributes_text(alloc: Global, graph: &Graph, tree: &Tree) -> Result<Vec<u8>, OutOfMemory>
+    requires { tree.now ≡ graph_tree graph.now }
+    ensures { IfOk result (λ text. text.items ≡ attributes_report (attributes_of graph.now)) }
+{
+    write_attributes(alloc, &Attributes::of(alloc, graph, tree)?)
+}
+
+// The text of the minima of a graph, whose order and tree these are.
+fn minima_text(
+    alloc: Global,
+    graph: &Graph,
+    order: &Order,
+    tree: &Tree,
+) -> Result<Vec<u8>, OutOfMemory>
+    requires order { order.now ≡ order_of graph.now }
+    requires tree { tree.now ≡ graph_tree graph.now }
+    ensures { IfOk result (λ text. text.items ≡ minima_report (minima_of graph.now)) }
+{
+    write_minima(alloc, &Minima::of(alloc, graph, order, tree)?)
 }
 
 // The text of the regions of a tree at a level.

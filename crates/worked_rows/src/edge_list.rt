@@ -11,10 +11,11 @@ pub(crate) struct PlainEdge {
     pub number: usize,
 }
 
-/// A graph: the number of its vertices, and its edges in the order of the input.
+/// A graph: the number of its vertices, the area of each, and its edges in the order of the input.
 #[derive(Drop)]
 pub(crate) struct PlainGraph {
     pub n: u64,
+    pub areas: Vec<u64>,
     pub edges: Vec<PlainEdge>,
     ghost few: { n ≤ 1048576 },
 }
@@ -89,21 +90,61 @@ fn edges(alloc: Global, n: u64, numbers: &[u64]) -> Result<Option<Vec<PlainEdge>
     Ok(Some(edges))
 }
 
-/// The graph of a text that is a well-formed edge list with the word `graph`; `None` of any other text.
+/// The first numbers, which are the areas of n vertices where areas are given, and the other numbers. Each area is 1
+/// where none are given.
+fn areas(
+    alloc: Global,
+    n: u64,
+    are_given: bool,
+    numbers: &[u64],
+) -> Result<Option<(Vec<u64>, &[u64])>, AllocError> {
+    let n = n as usize;
+    if !are_given {
+        return Ok(Some((vec![in alloc; 1; n]?, numbers)));
+    }
+    let (Some(areas), Some(rest)) = (numbers.get(..n), numbers.get(n..)) else {
+        return Ok(None);
+    };
+    if areas.iter().all(|area| 1 <= *area && *area <= 4096) {
+        Ok(Some((Vec::from_slice(alloc, areas)?, rest)))
+    } else {
+        Ok(None)
+    }
+}
+
+/// The graph of n vertices and m edges with these numbers, which begin with the areas where these are given.
+fn graph(
+    alloc: Global,
+    n: u64,
+    m: u64,
+    has_areas: bool,
+    numbers: &[u64],
+) -> Result<Option<PlainGraph>, AllocError>
+    requires { n ≤ 1048576 }
+{
+    let Some((areas, ends)) = areas(alloc, n, has_areas, numbers)? else {
+        return Ok(None);
+    };
+    match edges(alloc, n, ends)? {
+        Some(edges) if edges.len() as u64 == m => Ok(Some(PlainGraph { n, areas, edges })),
+        _ => Ok(None),
+    }
+}
+
+/// The graph of a text that is a well-formed edge list; `None` of any other text.
 pub(crate) fn read_graph(alloc: Global, text: &str) -> Result<Option<PlainGraph>, AllocError> {
     let tokens = tokens(alloc, text)?;
-    let Some((&"graph", rest)) = tokens.split_first() else {
-        return Ok(None);
+    let (has_areas, rest) = match tokens.split_first() {
+        Some((&"graph", rest)) => (false, rest),
+        Some((&"graph2", rest)) => (true, rest),
+        _ => return Ok(None),
     };
     let Some(numbers) = numbers(alloc, rest)? else {
         return Ok(None);
     };
     match numbers.as_slice() {
-        [n, m, ends @ ..] if 1 <= *n && *n <= 1_048_576 && *m <= 4_194_304 => {
-            Ok(match edges(alloc, *n, ends)? {
-                Some(edges) if edges.len() as u64 == *m => Some(PlainGraph { n: *n, edges }),
-                _ => None,
-            })
+        [n, m, rest @ ..] if 1 <= *n && *n <= 1_048_576 && *m <= 4_194_304 => {
+            graph(alloc, *n, *m, has_areas, rest)
         }
         _ => Ok(None),
     }

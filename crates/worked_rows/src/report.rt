@@ -1,5 +1,7 @@
+use crate::attributes::attributes;
 use crate::edge_list::{PlainGraph, read_graph};
 use crate::levels::{heads, regions_up_to, saliencies};
+use crate::minima::minima_of;
 use crate::tree::{PlainTree, tree_of};
 use crate::zones::zones_of;
 use std::alloc::{AllocError, Global};
@@ -13,6 +15,10 @@ pub enum PlainReport {
     Zones,
     /// The saliency of each edge.
     Saliency,
+    /// The area, the volume and the dynamics of each node.
+    Attributes,
+    /// The minima.
+    Minima,
     /// The regions of the tree at a level.
     Cut(u64),
 }
@@ -38,6 +44,44 @@ fn saliency_text(alloc: Global, graph: &PlainGraph) -> Result<String, AllocError
     for (number, value) in values.iter().enumerate() {
         writeln!(text, "{number} {value}")?;
     }
+    Ok(text)
+}
+
+/// The text of the attributes of the nodes of a graph's tree.
+fn attributes_text(
+    alloc: Global,
+    graph: &PlainGraph,
+    tree: &PlainTree,
+) -> Result<String, AllocError> {
+    let attributes = attributes(alloc, graph, tree)?;
+    let nodes = attributes.len();
+    let mut text = format!(in alloc; "attributes {nodes}\n")?;
+    for (number, node) in attributes.iter().enumerate() {
+        let area = node.area;
+        let volume = node.volume;
+        let dynamics = node.dynamics;
+        writeln!(text, "{number} {area} {volume} {dynamics}")?;
+    }
+    Ok(text)
+}
+
+/// Adds a line for each label, with the word.
+fn add_labels(text: &mut String, word: &str, labels: &[usize]) -> Result<(), AllocError> {
+    for (number, label) in labels.iter().enumerate() {
+        writeln!(text, "{word} {number} {label}")?;
+    }
+    Ok(())
+}
+
+/// The text of the minima of a graph.
+fn minima_text(alloc: Global, graph: &PlainGraph) -> Result<String, AllocError> {
+    let minima = minima_of(alloc, graph)?;
+    let count = minima.count;
+    let n = minima.vertices.len();
+    let m = minima.edges.len();
+    let mut text = format!(in alloc; "minima {count} {n} {m}\n")?;
+    add_labels(&mut text, "v", &minima.vertices)?;
+    add_labels(&mut text, "e", &minima.edges)?;
     Ok(text)
 }
 
@@ -69,6 +113,8 @@ pub fn report_of(
         PlainReport::Tree => tree_text(alloc, &tree)?,
         PlainReport::Zones => tree_text(alloc, &zones_of(alloc, &tree)?)?,
         PlainReport::Saliency => saliency_text(alloc, &graph)?,
+        PlainReport::Attributes => attributes_text(alloc, &graph, &tree)?,
+        PlainReport::Minima => minima_text(alloc, &graph)?,
         PlainReport::Cut(level) => cut_text(alloc, &tree, level)?,
     }))
 }

@@ -7,8 +7,10 @@ use std::thread::Threads;
 
 const TRIANGLE: &str = "graph 3 3\n0 1 1\n1 2 1\n0 2 1\n";
 
+const PATH: &str = "graph 4 3\n0 1 1\n1 2 5\n2 3 2\n";
+
 /// The reports and inputs that were worked out by hand, and what is written.
-const WORKED: [(&[&str], PlainReport, &str, &str); 15] = [
+const WORKED: [(&[&str], PlainReport, &str, &str); 24] = [
     (
         &["tree"],
         PlainReport::Tree,
@@ -78,7 +80,7 @@ const WORKED: [(&[&str], PlainReport, &str, &str); 15] = [
     (
         &["cut", "--level", "1"],
         PlainReport::Cut(1),
-        "graph 4 3\n0 1 1\n1 2 5\n2 3 2\n",
+        PATH,
         "labels 4 3\n0 1\n1 1\n2 2\n3 3\n",
     ),
     (
@@ -98,6 +100,60 @@ const WORKED: [(&[&str], PlainReport, &str, &str); 15] = [
         PlainReport::Tree,
         "# roads\ngraph 2 1\r\n0 1 7 # north\r\n",
         "tree 3 2\n0 2 0\n1 2 0\n2 2 7\n",
+    ),
+    (
+        &["attributes"],
+        PlainReport::Attributes,
+        "graph 1 0\n",
+        "attributes 1\n0 1 0 0\n",
+    ),
+    (
+        &["attributes"],
+        PlainReport::Attributes,
+        PATH,
+        "attributes 7\n0 1 0 0\n1 1 0 0\n2 1 0 0\n3 1 0 0\n4 2 8 4\n5 2 6 3\n6 4 14 4\n",
+    ),
+    (
+        &["attributes"],
+        PlainReport::Attributes,
+        "graph 3 1\n0 1 4\n",
+        "attributes 4\n0 1 0 0\n1 1 0 0\n2 1 0 0\n3 2 0 0\n",
+    ),
+    (
+        &["attributes"],
+        PlainReport::Attributes,
+        "graph2 4 3\n1 1 1 10\n0 1 1\n1 2 5\n2 3 2\n",
+        "attributes 7\n0 1 0 0\n1 1 0 0\n2 1 0 0\n3 10 0 0\n4 2 8 4\n5 11 33 3\n6 13 41 4\n",
+    ),
+    (
+        &["attributes"],
+        PlainReport::Attributes,
+        "graph2 1 0\n4096\n",
+        "attributes 1\n0 4096 0 0\n",
+    ),
+    (
+        &["minima"],
+        PlainReport::Minima,
+        "graph 1 0\n",
+        "minima 1 1 0\nv 0 1\n",
+    ),
+    (
+        &["minima"],
+        PlainReport::Minima,
+        PATH,
+        "minima 2 4 3\nv 0 1\nv 1 1\nv 2 2\nv 3 2\ne 0 1\ne 1 0\ne 2 2\n",
+    ),
+    (
+        &["minima"],
+        PlainReport::Minima,
+        "graph 4 3\n0 1 2\n1 2 2\n2 3 1\n",
+        "minima 1 4 3\nv 0 0\nv 1 0\nv 2 1\nv 3 1\ne 0 0\ne 1 0\ne 2 1\n",
+    ),
+    (
+        &["minima"],
+        PlainReport::Minima,
+        "graph 3 1\n0 1 4\n",
+        "minima 2 3 1\nv 0 1\nv 1 1\nv 2 2\ne 0 1\n",
     ),
 ];
 
@@ -119,6 +175,9 @@ fn other_texts(rt: HostRuntime) -> Result<(), Fail> {
         "graph 0 0\n",
         "graph 2 1\n0 0 3\n",
         "graph 2 1\n0 2 3\n",
+        "graph2 1 0\n",
+        "graph2 1 0\n0\n",
+        "graph2 1 0\n4097\n",
     ] {
         let report = report_of(rt.alloc(), input, PlainReport::Tree)?;
         assert!(rt; report.is_none(), "of {input:?}");
@@ -191,10 +250,12 @@ fn the_program_writes_the_worked_reports(rt: HostRuntime) -> Result<(), Fail> {
 }
 
 /// Reports that are compared on many graphs, and their words.
-const COMPARED: [(&[&str], PlainReport); 7] = [
+const COMPARED: [(&[&str], PlainReport); 9] = [
     (&["tree"], PlainReport::Tree),
     (&["zones"], PlainReport::Zones),
     (&["saliency"], PlainReport::Saliency),
+    (&["attributes"], PlainReport::Attributes),
+    (&["minima"], PlainReport::Minima),
     (&["cut"], PlainReport::Cut(0)),
     (&["cut", "--level", "1"], PlainReport::Cut(1)),
     (&["cut", "--level", "2"], PlainReport::Cut(2)),
@@ -206,11 +267,29 @@ fn next(state: u32) -> u32 {
     state.wrapping_mul(1_664_525).wrapping_add(1_013_904_223)
 }
 
+/// How many mixed graphs have areas of 1; those of further seeds have other ones.
+const WITHOUT_AREAS: u32 = 30;
+
+/// The first line of a mixed graph, and its areas, where it has some.
+fn head_of(alloc: Global, n: u32, m: u32, seed: u32) -> Result<String, AllocError> {
+    if seed < WITHOUT_AREAS {
+        return Ok(format!(in alloc; "graph {n} {m}\n")?);
+    }
+    let mut text = format!(in alloc; "graph2 {n} {m}\n")?;
+    let mut state = seed;
+    for _ in 0..n {
+        state = next(state);
+        let area = 1 + (state >> 16) % 4096;
+        writeln!(text, "{area}")?;
+    }
+    Ok(text)
+}
+
 /// A graph of 2 to 7 vertices and up to 9 edges of small weights, so that many weights are equal.
 fn mixed_graph(alloc: Global, seed: u32) -> Result<String, AllocError> {
     let n = 2 + seed % 6;
     let m = seed % 10;
-    let mut text = format!(in alloc; "graph {n} {m}\n")?;
+    let mut text = head_of(alloc, n, m, seed)?;
     let mut state = next(seed);
     for _ in 0..m {
         let u = (state >> 8) % n;
@@ -257,15 +336,35 @@ const MADE: [(&[&str], u32, u32); 6] = [
     (&["--make", "4", "--seed", "2"], 4, 2),
 ];
 
+/// Reports that are compared on made pictures.
+const COMPARED_ON_PICTURES: [(&str, PlainReport); 3] = [
+    ("tree", PlainReport::Tree),
+    ("attributes", PlainReport::Attributes),
+    ("minima", PlainReport::Minima),
+];
+
+/// Compares the program's reports on a picture that it makes by these words with those of the definitions.
+fn agrees_on_picture(
+    rt: &(impl Threads + Sync + Abort),
+    alloc: Global,
+    picture: &str,
+    words: &[&'static str],
+) -> Result<(), Fail> {
+    for (word, report) in COMPARED_ON_PICTURES {
+        let text = report_of(alloc, picture, report)?;
+        let want = text.expect(rt, "a well-formed input");
+        let ran = run_tiled(rt, alloc, &[word], words, "")?;
+        assert_eq!(rt; ran.code, 0, "{word} of {words:?}");
+        assert_eq!(rt; ran.out.taken(), want.as_bytes(), "{word} of {words:?}");
+    }
+    Ok(())
+}
+
 #[test]
 fn the_program_and_the_definitions_agree_on_made_pictures(rt: HostRuntime) -> Result<(), Fail> {
     for (words, side, seed) in MADE {
         let picture = made_picture(rt.alloc(), side, seed)?;
-        let tree = report_of(rt.alloc(), picture.as_str(), PlainReport::Tree)?;
-        let want = tree.expect(&rt, "a well-formed input");
-        let ran = run_tiled(&rt, rt.alloc(), &["tree"], words, "")?;
-        assert_eq!(rt; ran.code, 0, "of {words:?}");
-        assert_eq!(rt; ran.out.taken(), want.as_bytes(), "of {words:?}");
+        agrees_on_picture(&rt, rt.alloc(), picture.as_str(), words)?;
     }
     Ok(())
 }

@@ -4,11 +4,11 @@
 //! and outputs, so they check that the definitions say what is meant.
 #![tactic(auto)]
 
-mod attributes;
 mod edge_list;
 mod hierarchy;
 mod levels;
 mod minima;
+mod node_attributes;
 mod picture;
 mod report;
 mod tree;

@@ -1,7 +1,7 @@
-use crate::attributes::attributes;
 use crate::edge_list::{PlainGraph, read_graph};
 use crate::levels::{heads, regions_up_to, saliencies};
 use crate::minima::minima_of;
+use crate::node_attributes::attributes;
 use crate::tree::{PlainTree, tree_of};
 use crate::zones::zones_of;
 use std::alloc::{AllocError, Global};

@@ -37,20 +37,20 @@ rooted-plain : (g : WeightedGraph) (f : List ℕ) → IsRooted (plain g) f → I
 rooted-plain g f r = record { numbers = r.numbers; distinct = r.distinct; outside = r.outside; as_long = r.as_long; reach = r.reach; one = r.one }
 
 -- the forest of a graph whose edges are read is rooted in the minima
-pub read-rooted : (g : WeightedGraph) → IsRead g → IsRooted g (forest g)
-read-rooted g r = rooted-plain g (forest g) (forest-rooted (plain g) (plain-graph g r))
+pub read_rooted : (g : WeightedGraph) → IsRead g → IsRooted g (forest g)
+read_rooted g r = rooted-plain g (forest g) (forest-rooted (plain g) (plain-graph g r))
 
 -- the test of the forest's edges by number
 abbrev in_forest : WeightedGraph → ℕ → Bool
 in_forest g e = is_forest g.n (ranked g) (numbered g e)
 
 -- its numbers are numbers of edges
-pub read-numbers : (g : WeightedGraph) → IsRead g → (f : List ℕ) → f ≡ forest g → All (λ e. e < length g.edges) f
-read-numbers g r f same = subst (All (λ e. e < length g.edges)) (sym same) (read-rooted g r).numbers
+pub read_numbers : (g : WeightedGraph) → IsRead g → (f : List ℕ) → f ≡ forest g → All (λ e. e < length g.edges) f
+read_numbers g r f same = subst (All (λ e. e < length g.edges)) (sym same) (read_rooted g r).numbers
 
 -- it has no more edges than the graph
-pub read-few : (g : WeightedGraph) → IsRead g → (f : List ℕ) → f ≡ forest g → length f ≤ 4194304
-read-few g r f same =
+pub read_few : (g : WeightedGraph) → IsRead g → (f : List ℕ) → f ≡ forest g → length f ≤ 4194304
+read_few g r f same =
     let long : length f ≡ length (forest g) = ap (λ (xs : List ℕ). length xs) same in
     let kept : length (forest g) ≡ count_by (in_forest g) (numbers g) = length-filter (in_forest g) (numbers g) in
     let less : count_by (in_forest g) (numbers g) ≤ length (numbers g) = count_by-le-length (in_forest g) (numbers g) in
@@ -59,5 +59,5 @@ read-few g r f same =
     omega (arith, long, kept, less, all, few)
 
 -- and no forest that is rooted so weighs less
-pub read-least : (g : WeightedGraph) → IsRead g → (f : List ℕ) → IsRooted g f → cost g (forest g) ≤ cost g f
-read-least g r f rooted = forest-least (plain g) (plain-graph g r) f (plain-rooted g f rooted)
+pub read_least : (g : WeightedGraph) → IsRead g → (f : List ℕ) → IsRooted g f → cost g (forest g) ≤ cost g f
+read_least g r f rooted = forest-least (plain g) (plain-graph g r) f (plain-rooted g f rooted)

@@ -10,6 +10,7 @@ use watershed_cut::{Minima, Watershed};
 
 /// The weight of the forest of a graph's watershed, of which minima and watershed are its own. The forest is rooted in
 /// the minima, and no forest that is rooted so weighs less (Cousty and others, Watershed Cuts, 2009). It takes no memory.
+#[tactic(auto, using(crate::proofs::Shapes::read_numbers, crate::proofs::Shapes::read_few, crate::proofs::Shapes::read_least))]
 pub fn witness(graph: &Graph, minima: &Minima, watershed: &Watershed) -> u64
     requires minima { minima.now ≡ minima_of graph.now }
     requires watershed { watershed.now ≡ watershed_of graph.now }

@@ -5,3 +5,6 @@ mod forest;
 mod sums;
 
 pub use forest::witness;
+
+#[cfg(test)]
+mod tests;

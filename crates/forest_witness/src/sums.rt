@@ -5,7 +5,7 @@ ghost use Rattle.forest_witness.specs.Reading.{IsRead};
 
 use hg_base::Graph;
 
-/// Reads each edge, whence its ends are two vertices.
+/// Reads each edge. A graph vouches for the ends of an edge only where it is read.
 pub(crate) fn read_edges(graph: &Graph)
     ensures { IsRead graph.now }
 {

@@ -19,7 +19,7 @@ use Rattle.hg_base.proofs.Ranked.{AreApart-ranked, IsIn-ranked}
 use Rattle.hg_base.proofs.Sets.{joined-among}
 use Rattle.hg_base.proofs.Walks.{Joined-joined}
 use Rattle.forest_witness.specs.Reading.{IsRead}
-use Rattle.forest_witness.proofs.Shapes.{read-least, read-rooted}
+use Rattle.forest_witness.proofs.Shapes.{read_least, read_rooted}
 use Rattle.partition_tree.specs.Forest.{IsForest}
 use Rattle.tile_plan.specs.Plan.{TilePlan, IsEdgeAmong, IsPlan, vertices}
 use Rattle.watershed_cut.specs.Forest.{forest, is_forest, trees}
@@ -119,10 +119,10 @@ cut-member g e within = (
 -- the watershed cut of a graph with these edges is one
 pub watershed-is : (g : WeightedGraph) → AreWithin g.n (ranked g) → IsRead g → IsWatershed g (watershed_of g)
 watershed-is g within read = record {
-  rooted = read-rooted g read;
-  least = read-least g read;
+  rooted = read_rooted g read;
+  least = read_least g read;
   one_label_each = length-map-range_with_len (tree_label g.n (ranked g)) 0 g.n;
-  reach = (read-rooted g read).reach;
+  reach = (read_rooted g read).reach;
   label = λ x y hx low j. (get_or-map-range_with_len (tree_label g.n (ranked g)) 0 g.n x x 0 hx (omega arith) ∙ tree-label_walk g.n (ranked g) (AreApart-ranked g) within x y low (joined-trees g x y j));
   cut = λ e. cut-member g e within;
 }

@@ -165,7 +165,8 @@ impl Region {
         self.tables.set_place(at, Place { leaf: up, finger });
     }
 
-    /// How often a number was taken. The count stands still at the greatest `u32`.
+    /// How often a number was taken. The count stands still at the greatest `u32`: from then on all cells of the number
+    /// have one turn, and a hint of that turn no longer tells which of them it means.
     pub fn turn(&self, id: u32) -> u32
         requires { IsCovered self.now id }
         ensures { result ≡ turn_of self.now id }

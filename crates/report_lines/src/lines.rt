@@ -1,0 +1,43 @@
+ghost use Rattle.std.specs.Prelude.{◌≡◌, ℕ, ◌-◌, ◌<◌, ◌≤◌, ◌++◌, List, OnOk};
+ghost use Rattle.report_lines.specs.Lines.{lines_from};
+
+use crate::writer::LineWriter;
+use std::alloc::AllocError;
+
+/// A list of lines, numbered from 0.
+pub trait Lines: Sync {
+    // how many lines there are
+    ghost count: { Self → ℕ };
+
+    // the bytes of the line of a number
+    ghost line: { Self → ℕ → List ℕ };
+
+    /// How many lines there are.
+    fn len(&self) -> usize
+        ensures { result ≡ count self.now };
+
+    /// How many bytes of room to take for a line.
+    fn room(&self) -> usize;
+
+    /// Appends the line of a number.
+    fn write(&self, text: &mut LineWriter, i: usize) -> Result<(), AllocError>
+        requires { i < count self.now }
+        ensures { OnOk result (text.new ≡ text.old ++ line self.now i) };
+}
+
+/// Appends the lines from a number up to, and without, another.
+pub(crate) fn write_lines<L: Lines>(
+    text: &mut LineWriter,
+    lines: &L,
+    from: usize,
+    to: usize,
+) -> Result<(), AllocError>
+    requires order { from ≤ to }
+    requires within { to ≤ L.count lines.now }
+    ensures { OnOk result (text.new ≡ text.old ++ lines_from (L.line lines.now) from (to - from)) }
+{
+    for i in from..to {
+        lines.write(text, i)?;
+    }
+    Ok(())
+}

@@ -2,9 +2,9 @@
 #![tactic(auto)]
 
 mod lines;
-
+mod pieces;
 mod writer;
 
 pub use lines::Lines;
-
+pub use pieces::{Pieces, write_pieces};
 pub use writer::LineWriter;

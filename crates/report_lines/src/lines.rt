@@ -1,8 +1,8 @@
-ghost use Rattle.std.specs.Prelude.{◌≡◌, ℕ, ◌-◌, ◌<◌, ◌≤◌, ◌++◌, List, OnOk};
+ghost use Rattle.std.specs.Prelude.{◌≡◌, ℕ, ◌-◌, ◌<◌, ◌≤◌, ◌++◌, List, IfOk, OnOk};
 ghost use Rattle.report_lines.specs.Lines.{lines_from};
 
 use crate::writer::LineWriter;
-use std::alloc::AllocError;
+use std::alloc::{AllocError, Global};
 
 /// A list of lines, numbered from 0.
 pub trait Lines: Sync {
@@ -25,8 +25,8 @@ pub trait Lines: Sync {
         ensures { OnOk result (text.new ≡ text.old ++ line self.now i) };
 }
 
-/// Appends the lines from a number up to, and without, another.
-pub(crate) fn write_lines<L: Lines>(
+// Appends the lines from a number up to, and without, another.
+fn write_lines<L: Lines>(
     text: &mut LineWriter,
     lines: &L,
     from: usize,
@@ -40,4 +40,21 @@ pub(crate) fn write_lines<L: Lines>(
         lines.write(text, i)?;
     }
     Ok(())
+}
+
+/// The lines from a number up to, and without, another.
+pub(crate) fn lines_text<L: Lines>(
+    alloc: Global,
+    lines: &L,
+    from: usize,
+    to: usize,
+) -> Result<Vec<u8>, AllocError>
+    requires order { from ≤ to }
+    requires within { to ≤ L.count lines.now }
+    ensures { IfOk result (λ text. text.items ≡ lines_from (L.line lines.now) from (to - from)) }
+{
+    let room = (to - from).saturating_mul(lines.room());
+    let mut text = LineWriter::with_room(alloc, room)?;
+    write_lines(&mut text, lines, from, to)?;
+    Ok(text.into_text())
 }

@@ -3,8 +3,10 @@
 
 mod lines;
 mod pieces;
+mod reports;
 mod writer;
 
 pub use lines::Lines;
 pub use pieces::{Pieces, write_pieces};
+pub use reports::{pieces_of, text_of};
 pub use writer::LineWriter;

@@ -25,21 +25,31 @@ pub trait Lines: Sync {
         ensures { OnOk result (text.new ≡ text.old ++ line self.now i) };
 }
 
-// Appends the lines from a number up to, and without, another.
-fn write_lines<L: Lines>(
-    text: &mut LineWriter,
-    lines: &L,
-    from: usize,
-    to: usize,
-) -> Result<(), AllocError>
-    requires order { from ≤ to }
-    requires within { to ≤ L.count lines.now }
-    ensures { OnOk result (text.new ≡ text.old ++ lines_from (L.line lines.now) from (to - from)) }
-{
-    for i in from..to {
-        lines.write(text, i)?;
+impl LineWriter {
+    /// Appends lines. Where there is no memory left the text may end in a part of them.
+    pub fn push_lines<L: Lines>(&mut self, lines: &L) -> Result<(), AllocError>
+        ensures { OnOk result (self.new ≡ self.old ++ lines_from (L.line lines.now) 0 (L.count lines.now)) }
+    {
+        self.push_some(lines, 0, lines.len())
     }
-    Ok(())
+
+    // Appends the lines from a number up to, and without, another.
+    fn push_some<L: Lines>(
+        &mut self,
+        lines: &L,
+        from: usize,
+        to: usize,
+    ) -> Result<(), AllocError>
+        requires order { from ≤ to }
+        requires within { to ≤ L.count lines.now }
+        ensures { OnOk result (self.new ≡ self.old ++ lines_from (L.line lines.now) from (to - from)) }
+    {
+        self.reserve((to - from).saturating_mul(lines.room()))?;
+        for i in from..to {
+            lines.write(self, i)?;
+        }
+        Ok(())
+    }
 }
 
 /// The lines from a number up to, and without, another.
@@ -53,8 +63,7 @@ pub(crate) fn lines_text<L: Lines>(
     requires within { to ≤ L.count lines.now }
     ensures { IfOk result (λ text. text.items ≡ lines_from (L.line lines.now) from (to - from)) }
 {
-    let room = (to - from).saturating_mul(lines.room());
-    let mut text = LineWriter::with_room(alloc, room)?;
-    write_lines(&mut text, lines, from, to)?;
+    let mut text = LineWriter::new(alloc);
+    text.push_some(lines, from, to)?;
     Ok(text.into_text())
 }

@@ -3,9 +3,11 @@ ghost use Rattle.std.specs.Io.KnownBytes.{Appends};
 ghost use Rattle.std.specs.declared.alloc.AllocError.{AllocError};
 ghost use Rattle.std.specs.declared.alloc.Global.{Global};
 ghost use Rattle.hg_base.specs.Outside.{HasCause, AppendsPrefix};
+ghost use Rattle.hg_base.specs.Text.{headed_line};
 ghost use Rattle.report_lines.specs.Lines.{cut, lines_from, lines_of_piece};
 
 use crate::lines::{Lines, lines_text};
+use crate::writer::LineWriter;
 use hg_base::{Failed, Sink, write_all};
 use std::alloc::{AllocError, Global};
 use std::marker::Model;
@@ -48,6 +50,23 @@ impl Pieces {
     {
         self.pieces.push(piece)?;
         Ok(())
+    }
+
+    /// Appends a line that begins with a word, with one to six numbers after it, as a piece. Where there is no memory left
+    /// the text stays.
+    pub fn push_headed_line(
+        &mut self,
+        alloc: Global,
+        word: &str,
+        numbers: &[u64],
+    ) -> Result<(), AllocError>
+        requires some { 0 < length numbers.now }
+        requires few { length numbers.now ≤ 6 }
+        ensures { OnOk result (self.new ≡ self.old ++ headed_line word.now numbers.now) }
+    {
+        let mut piece = LineWriter::new(alloc);
+        piece.push_headed_line(word, numbers)?;
+        self.push(piece.into_text())
     }
 
     /// Appends lines, in several pieces that threads of their own make where there are many. Where there is no memory

@@ -1,4 +1,4 @@
-ghost use Rattle.std.specs.Prelude.{◌≡◌, ◌<◌, ◌≤◌, [], ◌++◌, length, drop, IfOk, OnOk};
+ghost use Rattle.std.specs.Prelude.{◌≡◌, ◌<◌, ◌≤◌, [], ◌++◌, length, drop, OnOk};
 ghost use Rattle.hg_base.specs.Text.{line, headed_line};
 ghost use Rattle.report_lines.specs.Lines.{spaced};
 
@@ -26,14 +26,21 @@ impl Model for LineWriter {
 }
 
 impl LineWriter {
-    /// No text yet, with room for so many bytes.
-    pub fn with_room(alloc: Global, room: usize) -> Result<LineWriter, AllocError>
-        ensures { IfOk result (λ writer. writer ≡ []) }
+    /// No text yet.
+    pub fn new(alloc: Global) -> LineWriter
+        ensures { result ≡ [] }
     {
-        Ok(LineWriter {
-            text: Vec::with_capacity(alloc, room)?,
+        LineWriter {
+            text: Vec::new(alloc),
             line: [0; LINE],
-        })
+        }
+    }
+
+    /// Takes room for so many more bytes. The text stays.
+    pub fn reserve(&mut self, room: usize) -> Result<(), AllocError>
+        ensures { self.new ≡ self.old }
+    {
+        self.text.reserve(room)
     }
 
     /// Appends a line of these numbers, of one to six: in plain decimal, one space between, one line feed at the end.

@@ -69,10 +69,10 @@ one_line_more f text a i low =
     let more : (i - a) + 1 ≡ i + 1 - a = omega arith in
     append_assoc text (lines_from f a (i - a)) (f i)
     ∙ ap (λ (rest : List ℕ). text ++ rest)
-      (ap (λ (last : List ℕ). lines_from f a (i - a) ++ last) (sym (append-nil (f i)))
-      ∙ ap (λ (k : ℕ). lines_from f a (i - a) ++ lines_from f k 1) (sym place)
-      ∙ lines_join f a (i - a) 1
-      ∙ ap (λ (k : ℕ). lines_from f a k) more)
+    (ap (λ (last : List ℕ). lines_from f a (i - a) ++ last) (sym (append-nil (f i)))
+    ∙ ap (λ (k : ℕ). lines_from f a (i - a) ++ lines_from f k 1) (sym place)
+    ∙ lines_join f a (i - a) 1
+    ∙ ap (λ (k : ℕ). lines_from f a k) more)
 
 -- a word and its numbers, behind a text
 pub headed_text : (old worded new word ns bytes : List ℕ) (start : ℕ) → 0 < length ns → worded ≡ old ++ word → drop start bytes ≡ spaced ns → new ≡ worded ++ drop start bytes → new ≡ old ++ headed_line word ns
@@ -82,3 +82,15 @@ headed_text old worded new word ns bytes start some first made second =
     ∙ append_assoc old word (drop start bytes)
     ∙ ap (λ (rest : List ℕ). old ++ (word ++ rest)) made
     ∙ ap (λ (rest : List ℕ). old ++ rest) (headed_from word ns some)
+
+-- the lines of the elements of a list, from an index on
+lines_from_index : (f : ℕ → List ℕ) (xs : List ℕ) (a n : ℕ) → a + n ≡ length xs → lines_from (λ i. f (get_or xs i 0)) a n ≡ flat_map f (drop a xs)
+lines_from_index f xs a zero all = let none : drop a xs ≡ [] = drop_of_length-le xs (omega arith) in ap (flat_map f) (sym none)
+lines_from_index f xs a (suc n) all =
+    let within : a < length xs = omega arith in
+    let next : drop (a + 1) xs ≡ drop (suc a) xs = rw add-one in
+    ap (λ (rest : List ℕ). f (get_or xs a 0) ++ rest) (lines_from_index f xs (a + 1) n (omega arith) ∙ ap (flat_map f) next) ∙ ap (flat_map f) (sym (drop-cons xs a 0 within))
+
+-- the lines of the elements of a list
+pub lines_of_list : (f : ℕ → List ℕ) (xs : List ℕ) → lines_from (λ i. f (get_or xs i 0)) 0 (length xs) ≡ flat_map f xs
+lines_of_list f xs = lines_from_index f xs 0 (length xs) (omega arith)

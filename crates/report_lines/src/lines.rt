@@ -34,12 +34,7 @@ impl LineWriter {
     }
 
     // Appends the lines from a number up to, and without, another.
-    fn push_some<L: Lines>(
-        &mut self,
-        lines: &L,
-        from: usize,
-        to: usize,
-    ) -> Result<(), AllocError>
+    fn push_some<L: Lines>(&mut self, lines: &L, from: usize, to: usize) -> Result<(), AllocError>
         requires order { from ≤ to }
         requires within { to ≤ L.count lines.now }
         ensures { OnOk result (self.new ≡ self.old ++ lines_from (L.line lines.now) from (to - from)) }

@@ -44,6 +44,15 @@ impl Pieces {
         }
     }
 
+    /// A text of one piece.
+    pub fn of(alloc: Global, text: Vec<u8>) -> Result<Pieces, AllocError>
+        ensures { IfOk result (λ pieces. pieces ≡ text.items) }
+    {
+        let mut pieces = Pieces::new(alloc);
+        pieces.push(text)?;
+        Ok(pieces)
+    }
+
     /// Appends a piece. Where there is no memory left the text stays.
     pub fn push(&mut self, piece: Vec<u8>) -> Result<(), AllocError>
         ensures { OnOk result (self.new ≡ self.old ++ piece.items) }

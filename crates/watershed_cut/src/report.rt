@@ -100,6 +100,7 @@ pub fn write_watershed(
     watershed_text(alloc, watershed, minima, weight).map_err(|_| OutOfMemory)
 }
 
+#[tactic(auto, using(report_lines::proofs::LineForms::lines_of_list))]
 fn watershed_text(
     alloc: Global,
     watershed: &Watershed,
@@ -137,6 +138,7 @@ pub fn watershed_pieces(
     pieces_of_watershed(rt, alloc, watershed, minima, weight).map_err(|_| OutOfMemory)
 }
 
+#[tactic(auto, using(report_lines::proofs::LineForms::lines_of_list))]
 fn pieces_of_watershed(
     rt: &(impl Threads + Sync),
     alloc: Global,

@@ -190,11 +190,7 @@ fn text_of(
 }
 
 // The text of the zones of a tree.
-fn zones_text(
-    rt: &(impl Threads + Sync),
-    alloc: Global,
-    tree: &Tree,
-) -> Result<Pieces, OutOfMemory>
+fn zones_text(rt: &(impl Threads + Sync), alloc: Global, tree: &Tree) -> Result<Pieces, OutOfMemory>
     requires { AltitudesRise tree.now }
     ensures { IfOk result (λ text. text ≡ tree_report (zones_of tree.now)) }
 {

@@ -14,7 +14,6 @@ use Rattle.hg_base.specs.declared.fault.FaultKind.TheVariants.{NotAPicture, TooM
 use Rattle.label_writer.specs.Report.{labels_picture, labels_report}
 use Rattle.merge_board.specs.Seats.{ReceiptState}
 use Rattle.partition_tree.specs.Report.{tree_report}
-use Rattle.pgm_reader.specs.Raster.{Raster}
 use Rattle.saliency.specs.Report.{saliency_report}
 use Rattle.tile_plan.specs.Plan.{TilePlan, blocks, squares, tile_count}
 use Rattle.watershed_cut.specs.Forest.{forest}
@@ -38,21 +37,17 @@ use Rattle.higra_cli.specs.declared.writing.RunFault.TheVariants as faults
 abbrev pub regions : WeightedGraph → ℕ → Labelling
 regions g level = labelling (shares (graph_tree g) level) g.n
 
--- the labels of a report, if it has some: so far a watershed cut and a cut of the graph's own tree have
-abbrev pub labels_of : Report → WeightedGraph → Option Labelling
-labels_of reports.Watershed g = Some (watershed_of g).labels
-labels_of (reports.Cut None level) g = Some (regions g level)
-labels_of report g = None
-
--- labels as a text, if there are some
-abbrev pub labels_text : Option Labelling → List ℕ
-labels_text None = []
-labels_text (Some labels) = labels_report labels
-
--- labels as samples of the pixels of a picture, if there are some
-abbrev pub labels_drawn : Option Labelling → Raster → List ℕ
-labels_drawn None raster = []
-labels_drawn (Some labels) raster = labels_picture labels raster.width raster.height
+-- the labels of a report; so far a watershed cut and a cut of the graph's own tree have some
+abbrev pub labels_of : Report → WeightedGraph → Labelling
+labels_of reports.Tree g = record { labels = []; count = 0 }
+labels_of reports.Zones g = record { labels = []; count = 0 }
+labels_of reports.Saliency g = record { labels = []; count = 0 }
+labels_of reports.Attributes g = record { labels = []; count = 0 }
+labels_of reports.Minima g = record { labels = []; count = 0 }
+labels_of reports.Watershed g = (watershed_of g).labels
+labels_of reports.Summary g = record { labels = []; count = 0 }
+labels_of (reports.Cut None level) g = regions g level
+labels_of (reports.Cut (Some kind) level) g = record { labels = []; count = 0 }
 
 -- the text of a report about a graph
 unfoldable pub text_of : Report → WeightedGraph → List ℕ
@@ -63,12 +58,12 @@ text_of reports.Attributes g = attributes_report (attributes_of g)
 text_of reports.Minima g = minima_report (minima_of g)
 text_of reports.Watershed g = watershed_report (watershed_of g) (minima_of g).count (cost g (forest g))
 text_of reports.Summary g = summary_report (summary_of g)
-text_of (reports.Cut kind level) g = labels_text (labels_of (reports.Cut kind level) g)
+text_of (reports.Cut kind level) g = labels_report (labels_of (reports.Cut kind level) g)
 
 -- the picture of a report about an input: the labels of a picture's pixels
 unfoldable pub picture_of : Report → Input → List ℕ
 picture_of report (Edges graph) = []
-picture_of report (Picture raster) = labels_drawn (labels_of report (graph_of (Picture raster))) raster
+picture_of report (Picture raster) = labels_picture (labels_of report (graph_of (Picture raster))) raster.width raster.height
 
 -- a report of this form
 abbrev pub report_in : Form → Report → Input → List ℕ
@@ -107,15 +102,10 @@ picture_fault forms.Text input = None
 picture_fault forms.Pgm (Edges graph) = Some (record { kind = NotAPicture; at = 0; value = 0 })
 picture_fault forms.Pgm (Picture raster) = None
 
--- labels that are too many for a picture, if there are some
-abbrev pub labels_fault : Option Labelling → Option InputFault
-labels_fault None = None
-labels_fault (Some labels) = label_fault labels.count
-
 -- a picture is asked for of too many labels
 abbrev pub drawing_fault : Form → Report → Input → Option InputFault
 drawing_fault forms.Text report input = None
-drawing_fault forms.Pgm report input = labels_fault (labels_of report (graph_of input))
+drawing_fault forms.Pgm report input = label_fault (labels_of report (graph_of input)).count
 
 -- the first fault, or else the second
 infixr 10 ◌before◌
@@ -132,18 +122,12 @@ refusal_in form tile report input = picture_fault form input before (tile_fault 
 unfoldable pub refusal : Request → Input → Option InputFault
 refusal request input = picture_fault request.form input before (tile_fault (tiles_of request input) before drawing_fault request.form request.report input)
 
--- what making the pieces of a report of this form in tiles of this size answers: exactly its bytes, or why there is none,
--- or that memory ran out
-abbrev pub IsReportIn : Form → ℕ → Report → Input → Result (List ℕ × ReceiptState) RunFault → Type 0
-IsReportIn form tile report input (Ok made) = (refusal_in form tile report input ≡ None) × (made.0 ≡ report_in form report input)
+-- what making a report of this form in tiles of this size answers: exactly its bytes, or why there is none, or that
+-- memory ran out
+abbrev pub IsReportIn : Form → ℕ → Report → Input → Result (Vec ℕ Global × ReceiptState) RunFault → Type 0
+IsReportIn form tile report input (Ok made) = (refusal_in form tile report input ≡ None) × (made.0.items ≡ report_in form report input)
 IsReportIn form tile report input (Err (faults.Input fault)) = refusal_in form tile report input ≡ Some fault
 IsReportIn form tile report input (Err faults.OutOfMemory) = Unit {0}
-
--- the same of the report that is asked for
-abbrev pub AreItsPieces : Request → Input → Result (List ℕ × ReceiptState) RunFault → Type 0
-AreItsPieces request input (Ok made) = (refusal request input ≡ None) × (made.0 ≡ report_of request input)
-AreItsPieces request input (Err (faults.Input fault)) = refusal request input ≡ Some fault
-AreItsPieces request input (Err faults.OutOfMemory) = Unit {0}
 
 -- what making a report answers: exactly its bytes, or why it can't be made of the input, or that memory ran out
 abbrev pub IsReport : Request → Input → Result (Vec ℕ Global × ReceiptState) RunFault → Type 0

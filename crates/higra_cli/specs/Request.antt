@@ -97,9 +97,14 @@ report_by line =
 
 -- whether a report can be drawn as a picture: a watershed or a cut, whose labels are its samples
 abbrev pub can_be_drawn : Report → Bool
+can_be_drawn reports.Tree = false
+can_be_drawn reports.Zones = false
+can_be_drawn reports.Saliency = false
+can_be_drawn reports.Attributes = false
+can_be_drawn reports.Minima = false
 can_be_drawn reports.Watershed = true
+can_be_drawn reports.Summary = false
 can_be_drawn (reports.Cut kind level) = true
-can_be_drawn report = false
 
 -- the form with this name, where the report can have it
 abbrev pub form_named : Report → List ℕ → Option Form

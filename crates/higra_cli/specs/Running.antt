@@ -37,8 +37,14 @@ IsFormOf report form = (form ≡ forms.Text) ⊎ (can_be_drawn report ≡ true)
 
 -- so far a cut is of the graph's own tree
 abbrev pub CutsOwn : Report → Type 0
+CutsOwn reports.Tree = Unit {0}
+CutsOwn reports.Zones = Unit {0}
+CutsOwn reports.Saliency = Unit {0}
+CutsOwn reports.Attributes = Unit {0}
+CutsOwn reports.Minima = Unit {0}
+CutsOwn reports.Watershed = Unit {0}
+CutsOwn reports.Summary = Unit {0}
 CutsOwn (reports.Cut kind level) = kind ≡ None
-CutsOwn report = Unit {0}
 
 -- what a report may be asked for
 pub record CanReport (request : Request) : Type 0 where

@@ -6,7 +6,7 @@ ghost use Rattle.hg_base.specs.Levels.{AltitudesRise, shares};
 ghost use Rattle.hg_base.specs.Tree.{graph_tree};
 ghost use Rattle.pgm_reader.specs.Grid as grid;
 ghost use Rattle.watershed_cut.specs.Watershed.{watershed_of};
-ghost use Rattle.higra_cli.specs.Drawing.{AreDrawn, IsDrawn};
+ghost use Rattle.higra_cli.specs.Drawing.{IsDrawn};
 ghost use Rattle.higra_cli.specs.Inputs.{graph_of};
 ghost use Rattle.higra_cli.specs.Ordered.{IsTreeOf};
 ghost use Rattle.higra_cli.specs.Reports.{IsReportIn, labels_of, receipt_of};
@@ -24,7 +24,6 @@ use label_writer::{LabelFault, write_pgm};
 use merge_board::Receipt;
 use partition_tree::Tree;
 use pgm_reader::{Picture, graph_of};
-use report_lines::Pieces;
 use saliency::cut;
 use std::alloc::Global;
 use std::thread::Threads;
@@ -48,7 +47,7 @@ pub(crate) fn picture_about<G: Gate>(
     request: &Request,
     input: &Input,
     gate: &G,
-) -> Result<(Pieces, Receipt), RunFault>
+) -> Result<(Vec<u8>, Receipt), RunFault>
     requires request { CanReport request.now }
     requires drawn { can_be_drawn request.now.report ≡ true }
     ensures picture { IsReportIn Form.Pgm request.now.tile request.now.report input.now result }
@@ -69,7 +68,7 @@ fn drawing<G: Gate>(
     request: &Request,
     picture: &Picture,
     gate: &G,
-) -> Result<(Pieces, Receipt), RunFault>
+) -> Result<(Vec<u8>, Receipt), RunFault>
     requires request { CanReport request.now }
     requires drawn { can_be_drawn request.now.report ≡ true }
     ensures picture { IsReportIn Form.Pgm request.now.tile request.now.report (Input.Picture picture.now) result }
@@ -80,8 +79,8 @@ fn drawing<G: Gate>(
     let planned = plan_pixels(rt, alloc, picture, &graph, request.tile)?;
     let (tree, receipt) = tree_of(rt, alloc, &planned, request.workers, gate)?;
     let report = request.report;
-    let pieces = draw_report(alloc, report, &graph, &planned.order, &tree, picture)?;
-    Ok((pieces, receipt))
+    let bytes = draw_report(alloc, report, &graph, &planned.order, &tree, picture)?;
+    Ok((bytes, receipt))
 }
 
 // The picture of the labels of a report about a picture, whose graph, order and tree these are.
@@ -93,13 +92,13 @@ fn draw_report(
     order: &Order,
     tree: &Tree,
     picture: &Picture,
-) -> Result<Pieces, RunFault>
+) -> Result<Vec<u8>, RunFault>
     requires drawn { can_be_drawn report ≡ true }
     requires own { CutsOwn report }
     requires graph { graph.now ≡ grid.graph_of picture.now }
     requires order { order.now ≡ order_of graph.now }
     requires tree { IsTreeOf graph.now tree.now }
-    ensures { AreDrawn (labels_of report graph.now) picture.now result }
+    ensures { IsDrawn (labels_of report graph.now) picture.now result }
 {
     match report {
         Report::Watershed => draw_watershed(alloc, graph, order, tree, picture),
@@ -120,7 +119,7 @@ fn draw_watershed(
     order: &Order,
     tree: &Tree,
     picture: &Picture,
-) -> Result<Pieces, RunFault>
+) -> Result<Vec<u8>, RunFault>
     requires graph { graph.now ≡ grid.graph_of picture.now }
     requires order { order.now ≡ order_of graph.now }
     requires tree { tree.now ≡ graph_tree graph.now }
@@ -138,7 +137,7 @@ fn draw_regions(
     tree: &Tree,
     level: u64,
     picture: &Picture,
-) -> Result<Pieces, RunFault>
+) -> Result<Vec<u8>, RunFault>
     requires rises { AltitudesRise tree.now }
     requires pixels { tree.now.leaves ≡ picture.now.width * picture.now.height }
     ensures { IsDrawn (labelling (shares tree.now level) tree.now.leaves) picture.now result }
@@ -149,12 +148,12 @@ fn draw_regions(
 
 // The picture of these labels, one for each pixel of a picture.
 #[tactic(auto, using(crate::proofs::DrawingLemmas::few_labels, crate::proofs::DrawingLemmas::many_labels))]
-fn draw(alloc: Global, labels: &Labels, picture: &Picture) -> Result<Pieces, RunFault>
+fn draw(alloc: Global, labels: &Labels, picture: &Picture) -> Result<Vec<u8>, RunFault>
     requires { picture.now.width * picture.now.height ≡ length labels.now.labels }
     ensures { IsDrawn labels.now picture.now result }
 {
     match write_pgm(alloc, labels, picture.width(), picture.height()) {
-        Ok(bytes) => Ok(Pieces::of(alloc, bytes)?),
+        Ok(bytes) => Ok(bytes),
         Err(LabelFault::TooManyLabels(count)) => Err(RunFault::Input(InputFault {
             kind: FaultKind::TooManyLabels,
             at: 0,

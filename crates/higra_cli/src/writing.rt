@@ -17,7 +17,7 @@ ghost use Rattle.watershed_cut.specs.Watershed.{watershed_of};
 ghost use Rattle.higra_cli.specs.Inputs.{graph_of};
 ghost use Rattle.higra_cli.specs.Ordered.{IsTreeOf};
 ghost use Rattle.higra_cli.specs.Planning.{IsPlanOver, receipt_over};
-ghost use Rattle.higra_cli.specs.Reports.{AreItsPieces, IsReport, IsReportIn, receipt_of, text_of};
+ghost use Rattle.higra_cli.specs.Reports.{IsReport, IsReportIn, receipt_of, text_of};
 ghost use Rattle.higra_cli.specs.Running.{CanReport, CutsOwn, IsHierarchy};
 
 use super::drawing::picture_about;
@@ -25,21 +25,20 @@ use super::input::Input;
 use super::merging::tree_of;
 use super::planning::{Planned, plan_edges, plan_pixels};
 use super::request::{Form, Report, Request};
-use super::summary::{summary_of, summary_pieces};
-use attributes::{Attributes, attributes_pieces};
+use super::summary::{summary_of, write_summary};
+use attributes::{Attributes, write_attributes};
 use edge_order::Order;
 use forest_witness::witness;
 use hg_base::{Gate, Graph, InputFault, OutOfMemory};
-use label_writer::labels_pieces;
+use label_writer::write_labels;
 use merge_board::Receipt;
-use partition_tree::{Tree, tree_pieces};
+use partition_tree::{Tree, write_tree};
 use pgm_reader::graph_of;
 use quasi_flat_zones::zones;
-use report_lines::Pieces;
-use saliency::{cut, saliency, saliency_pieces};
+use saliency::{cut, saliency, write_saliency};
 use std::alloc::{AllocError, Global};
 use std::thread::Threads;
-use watershed_cut::{Minima, minima_pieces, watershed, watershed_pieces};
+use watershed_cut::{Minima, watershed, write_minima, write_watershed};
 
 /// Why no report was made.
 #[derive(Clone, Copy, Debug, PartialEq, Eq)]
@@ -78,6 +77,7 @@ impl From<AllocError> for RunFault {
 ///
 /// A picture is drawn of a picture alone, and of at most 65,535 labels; and a plan has at most 65,536 tiles. Else the
 /// input has the fault NotAPicture, TooManyTiles or TooManyLabels, the first of these that it has. Memory may run out.
+#[tactic(auto, unfolding(crate::specs::Reports::refusal, crate::specs::Reports::report_of))]
 pub fn report<G: Gate>(
     rt: &(impl Threads + Sync),
     alloc: Global,
@@ -87,24 +87,6 @@ pub fn report<G: Gate>(
 ) -> Result<(Vec<u8>, Receipt), RunFault>
     requires { CanReport request.now }
     ensures report { IsReport request.now input.now result }
-    ensures receipt { IfOk result (λ made. made.1 ≡ receipt_of request.now input.now) }
-    ensures hierarchy { IfOk result (λ _. IsHierarchy (graph_of input.now)) }
-{
-    let (pieces, receipt) = report_pieces(rt, alloc, request, input, gate)?;
-    Ok((pieces.joined(alloc)?, receipt))
-}
-
-/// The same report in pieces, and the receipt.
-#[tactic(auto, unfolding(crate::specs::Reports::refusal, crate::specs::Reports::report_of))]
-pub(crate) fn report_pieces<G: Gate>(
-    rt: &(impl Threads + Sync),
-    alloc: Global,
-    request: &Request,
-    input: &Input,
-    gate: &G,
-) -> Result<(Pieces, Receipt), RunFault>
-    requires { CanReport request.now }
-    ensures report { AreItsPieces request.now input.now result }
     ensures receipt { IfOk result (λ made. made.1 ≡ receipt_of request.now input.now) }
     ensures hierarchy { IfOk result (λ _. IsHierarchy (graph_of input.now)) }
 {
@@ -122,7 +104,7 @@ fn text_about<G: Gate>(
     request: &Request,
     input: &Input,
     gate: &G,
-) -> Result<(Pieces, Receipt), RunFault>
+) -> Result<(Vec<u8>, Receipt), RunFault>
     requires { CanReport request.now }
     ensures text { IsReportIn Form.Text request.now.tile request.now.report input.now result }
     ensures receipt { IfOk result (λ made. made.1 ≡ receipt_of request.now input.now) }
@@ -149,109 +131,96 @@ fn text<G: Gate>(
     graph: &Graph,
     planned: &Planned,
     gate: &G,
-) -> Result<(Pieces, Receipt), OutOfMemory>
+) -> Result<(Vec<u8>, Receipt), OutOfMemory>
     requires request { CanReport request.now }
     requires planned { IsPlanOver graph.now planned.now }
-    ensures text { IfOk result (λ made. made.0 ≡ text_of request.now.report graph.now) }
+    ensures text { IfOk result (λ made. made.0.items ≡ text_of request.now.report graph.now) }
     ensures receipt { IfOk result (λ made. made.1 ≡ receipt_over planned.now.plan request.now.workers) }
     ensures hierarchy { IfOk result (λ _. IsHierarchy graph.now) }
 {
     let (tree, receipt) = tree_of(rt, alloc, planned, request.workers, gate)?;
-    let text = text_of(rt, alloc, request.report, graph, &planned.order, &tree)?;
+    let text = text_of(alloc, request.report, graph, &planned.order, &tree)?;
     Ok((text, receipt))
 }
 
 // The text of a report about a graph, whose order and tree these are.
 #[tactic(auto, using(crate::proofs::OrderedLemmas::is_hierarchy, crate::proofs::OrderedLemmas::shared_roots), unfolding(crate::specs::Reports::text_of))]
 fn text_of(
-    rt: &(impl Threads + Sync),
     alloc: Global,
     report: Report,
     graph: &Graph,
     order: &Order,
     tree: &Tree,
-) -> Result<Pieces, OutOfMemory>
+) -> Result<Vec<u8>, OutOfMemory>
     requires own { CutsOwn report }
     requires order { order.now ≡ order_of graph.now }
     requires tree { IsTreeOf graph.now tree.now }
-    ensures text { IfOk result (λ text. text ≡ text_of report graph.now) }
+    ensures text { IfOk result (λ text. text.items ≡ text_of report graph.now) }
     ensures hierarchy { IfOk result (λ _. IsHierarchy graph.now) }
 {
     match report {
-        Report::Tree => tree_pieces(rt, alloc, tree),
-        Report::Zones => zones_text(rt, alloc, tree),
-        Report::Saliency => saliency_pieces(rt, alloc, &saliency(alloc, graph, tree)?),
-        Report::Attributes => attributes_text(rt, alloc, graph, tree),
-        Report::Minima => minima_text(rt, alloc, graph, order, tree),
-        Report::Watershed => watershed_text(rt, alloc, graph, order, tree),
-        Report::Summary => summary_pieces(alloc, &summary_of(alloc, graph, order, tree)?),
-        Report::Cut(_, level) => regions_text(rt, alloc, tree, level),
+        Report::Tree => write_tree(alloc, tree),
+        Report::Zones => zones_text(alloc, tree),
+        Report::Saliency => write_saliency(alloc, &saliency(alloc, graph, tree)?),
+        Report::Attributes => attributes_text(alloc, graph, tree),
+        Report::Minima => minima_text(alloc, graph, order, tree),
+        Report::Watershed => watershed_text(alloc, graph, order, tree),
+        Report::Summary => write_summary(alloc, &summary_of(alloc, graph, order, tree)?),
+        Report::Cut(_, level) => regions_text(alloc, tree, level),
     }
 }
 
 // The text of the zones of a tree.
-fn zones_text(rt: &(impl Threads + Sync), alloc: Global, tree: &Tree) -> Result<Pieces, OutOfMemory>
+fn zones_text(alloc: Global, tree: &Tree) -> Result<Vec<u8>, OutOfMemory>
     requires { AltitudesRise tree.now }
-    ensures { IfOk result (λ text. text ≡ tree_report (zones_of tree.now)) }
+    ensures { IfOk result (λ text. text.items ≡ tree_report (zones_of tree.now)) }
 {
-    tree_pieces(rt, alloc, &zones(alloc, tree)?)
+    write_tree(alloc, &zones(alloc, tree)?)
 }
 
 // The text of the attributes of the nodes of a graph's tree.
-fn attributes_text(
-    rt: &(impl Threads + Sync),
-    alloc: Global,
-    graph: &Graph,
-    tree: &Tree,
-) -> Result<Pieces, OutOfMemory>
+fn attributes_text(alloc: Global, graph: &Graph, tree: &Tree) -> Result<Vec<u8>, OutOfMemory>
     requires { tree.now ≡ graph_tree graph.now }
-    ensures { IfOk result (λ text. text ≡ attributes_report (attributes_of graph.now)) }
+    ensures { IfOk result (λ text. text.items ≡ attributes_report (attributes_of graph.now)) }
 {
-    attributes_pieces(rt, alloc, &Attributes::of(alloc, graph, tree)?)
+    write_attributes(alloc, &Attributes::of(alloc, graph, tree)?)
 }
 
 // The text of the minima of a graph, whose order and tree these are.
 fn minima_text(
-    rt: &(impl Threads + Sync),
     alloc: Global,
     graph: &Graph,
     order: &Order,
     tree: &Tree,
-) -> Result<Pieces, OutOfMemory>
+) -> Result<Vec<u8>, OutOfMemory>
     requires order { order.now ≡ order_of graph.now }
     requires tree { tree.now ≡ graph_tree graph.now }
-    ensures { IfOk result (λ text. text ≡ minima_report (minima_of graph.now)) }
+    ensures { IfOk result (λ text. text.items ≡ minima_report (minima_of graph.now)) }
 {
-    minima_pieces(rt, alloc, &Minima::of(alloc, graph, order, tree)?)
+    write_minima(alloc, &Minima::of(alloc, graph, order, tree)?)
 }
 
 // The text of the watershed cut of a graph, whose order and tree these are.
 fn watershed_text(
-    rt: &(impl Threads + Sync),
     alloc: Global,
     graph: &Graph,
     order: &Order,
     tree: &Tree,
-) -> Result<Pieces, OutOfMemory>
+) -> Result<Vec<u8>, OutOfMemory>
     requires order { order.now ≡ order_of graph.now }
     requires tree { tree.now ≡ graph_tree graph.now }
-    ensures { IfOk result (λ text. text ≡ watershed_report (watershed_of graph.now) (minima_of graph.now).count (cost graph.now (forest graph.now))) }
+    ensures { IfOk result (λ text. text.items ≡ watershed_report (watershed_of graph.now) (minima_of graph.now).count (cost graph.now (forest graph.now))) }
 {
     let minima = Minima::of(alloc, graph, order, tree)?;
     let watershed = watershed(alloc, graph, order, tree, &minima)?;
     let weight = witness(graph, &minima, &watershed);
-    watershed_pieces(rt, alloc, &watershed, &minima, weight)
+    write_watershed(alloc, &watershed, &minima, weight)
 }
 
 // The text of the regions of a tree at a level.
-fn regions_text(
-    rt: &(impl Threads + Sync),
-    alloc: Global,
-    tree: &Tree,
-    level: u64,
-) -> Result<Pieces, OutOfMemory>
+fn regions_text(alloc: Global, tree: &Tree, level: u64) -> Result<Vec<u8>, OutOfMemory>
     requires { AltitudesRise tree.now }
-    ensures { IfOk result (λ text. text ≡ labels_report (labelling (shares tree.now level) tree.now.leaves)) }
+    ensures { IfOk result (λ text. text.items ≡ labels_report (labelling (shares tree.now level) tree.now.leaves)) }
 {
-    labels_pieces(rt, alloc, &cut(alloc, tree, level)?)
+    write_labels(alloc, &cut(alloc, tree, level)?)
 }

@@ -16,7 +16,7 @@ pub trait Lines: Sync {
     fn len(&self) -> usize
         ensures { result ≡ count self.now };
 
-    /// How many bytes of room to take for a line.
+    /// How many bytes of room to take for a line: a hint. Longer lines are written too, and no clause rests on it.
     fn room(&self) -> usize;
 
     /// Appends the line of a number.

@@ -125,6 +125,17 @@ impl Region {
         }
     }
 
+    /// The cell of a number, if it has one.
+    pub fn cell(&self, id: u32) -> Option<Cell>
+        requires { IsCovered self.now id }
+        ensures { result ≡ cell_at self.now id }
+    {
+        match self.tables.slot(self.tables.locate(id)).state {
+            State::Used(cell) => Some(cell),
+            State::Free(_) => None,
+        }
+    }
+
     /// Gives a number that has a cell this one in its place.
     pub fn set(&mut self, id: u32, cell: Cell)
         requires { IsUsed self.old id }

@@ -4,6 +4,7 @@
 mod children;
 mod climbs;
 mod drawn;
+mod edges;
 mod forest;
 mod laws;
 mod list;

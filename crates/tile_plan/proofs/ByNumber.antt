@@ -29,10 +29,13 @@ ranked-rises g (suc n) =
     let one : suc n ≡ n + 1 = omega arith in
     let more : map at (range_with_len 0 (suc n)) ≡ s ++ at n ∷ [] = ap (λ (j : ℕ). map at (range_with_len 0 j)) one ∙ map-range_with_len_more at 0 n n (omega arith) in
     let P : EdgeList → Type 0 = λ t. IsRising t × ((e : ListedEdge) → IsIn e t → e.rank < suc n) in
-    subst P (sym more) (IsRising-push (at n) s before.0 before.1, λ e i. elim (IsIn-push (at n) e s i) [
-      | inl old ↦ (let low = before.1 e old in omega (arith, low))
-      | inr same ↦ subst (λ (x : ListedEdge). x.rank < suc n) same (omega arith)
-    ])
+    subst P (sym more) (
+      IsRising-push (at n) s before.0 before.1,
+      λ e i. elim (IsIn-push (at n) e s i) [
+        | inl old ↦ (let low = before.1 e old in omega (arith, low))
+        | inr same ↦ subst (λ (x : ListedEdge). x.rank < suc n) same (omega arith)
+      ],
+    )
 
 pub ranked-rising : (g : WeightedGraph) → IsRising (ranked g)
 ranked-rising g = (ranked-rises g (length g.edges)).0

@@ -19,12 +19,11 @@ use std::alloc::{AllocError, Global};
 use std::marker::Model;
 use std::snapshot::Snapshot;
 
-// The first place of each tile, the place of each vertex, and the vertex at each place.
+// The first place of each tile, and the place of each vertex.
 #[derive(Drop)]
 struct Places {
     starts: Vec<u32>,
     places: Vec<u32>,
-    vertices: Vec<u32>,
 }
 
 // The lots of all parts end to end, and where each begins.
@@ -69,12 +68,7 @@ fn places_of(alloc: Global, tiles: u32, homes: &[u32]) -> Result<Places, AllocEr
 {
     let starts = placing::starts(alloc, homes, tiles)?;
     let places = placing::places(alloc, homes, &starts)?;
-    let vertices = placing::inverse(alloc, &places)?;
-    Ok(Places {
-        starts,
-        places,
-        vertices,
-    })
+    Ok(Places { starts, places })
 }
 
 // The lots of all parts, by the tile and the place of each vertex.
@@ -157,12 +151,7 @@ impl Plan {
         Plan::laid(alloc, graph, order, frame).map_err(|_| PlanFault::OutOfMemory)
     }
 
-    fn laid(
-        alloc: Global,
-        graph: &Graph,
-        order: &Order,
-        frame: Frame,
-    ) -> Result<Plan, AllocError>
+    fn laid(alloc: Global, graph: &Graph, order: &Order, frame: Frame) -> Result<Plan, AllocError>
         requires order { order.now ≡ order_of graph.now }
         requires frame { IsFrame frame }
         requires vertices { order.now.n ≡ vertices_in frame }
@@ -252,13 +241,13 @@ impl Plan {
         self.places.places[v as usize]
     }
 
-    /// The vertex at a place.
+    /// The vertex at a place: it is searched among all.
     pub fn vertex_at(&self, place: u32) -> u32
         requires { place < vertices self.now }
         ensures value { place_of self.now result ≡ place }
         ensures below { result < vertices self.now }
     {
-        self.places.vertices[place as usize]
+        placing::first_at(&self.places.places, place) as u32
     }
 
     /// The places that a part covers: the first, and how many.

@@ -47,8 +47,8 @@ loop-rank-preserved c =
     let lot_of = λ (a b : ℕ). lot_in c.args.grid (slice_index c.args.homes.now a) (slice_index c.args.homes.now b) in
     let lot = λ (x : ListedEdge). lot_of x.u x.v in
     let next : take (k + 1) c.args.order.now.edges ≡ s ++ e ∷ [] =
-      ap (λ (o : EdgeOrder). take (k + 1) o.edges) order ∙ ranked-next g k within
-      ∙ ap (λ (t : EdgeList). t ++ e ∷ []) (sym (ap (λ (o : EdgeOrder). take k o.edges) order)) in
+    ap (λ (o : EdgeOrder). take (k + 1) o.edges) order ∙ ranked-next g k within
+    ∙ ap (λ (t : EdgeList). t ++ e ∷ []) (sym (ap (λ (o : EdgeOrder). take k o.edges) order)) in
     let at : number ≡ number_at g k = c.edge_at.ensures.value ∙ ap (λ (o : EdgeOrder). number_at_rank o k) order ∙ number_at_rank-of g k within in
     let read : r ≡ lot e = kept-read lot_of g own k number r c.in_ok-own.ensures.numbers within at c.index.ensures in
     let low : number < length own = omega (arith, c.edge_at.ensures.below, many, own-length g _ own c.in_ok-own.ensures.numbers) in
@@ -67,4 +67,4 @@ returns-clause-edges c =
     let g = c.args.graph.now in
     let few : length g.edges ≤ 4194304 = omega (arith, as-many g c.args.order.now c.requires.order) in
     λ e i. subst (λ (n : ℕ). IsEdgeAmong n e) (sym (ap (λ (o : EdgeOrder). o.n) c.requires.order))
-        (ranked-among g c.in_ok-own.ensures.ends few e (subst (λ (t : EdgeList). IsIn e t) (ap (λ (o : EdgeOrder). o.edges) c.requires.order) i))
+    (ranked-among g c.in_ok-own.ensures.ends few e (subst (λ (t : EdgeList). IsIn e t) (ap (λ (o : EdgeOrder). o.edges) c.requires.order) i))

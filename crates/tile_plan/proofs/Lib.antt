@@ -12,3 +12,4 @@ pub mod Ranges
 pub mod Reading
 pub mod Edges
 pub mod RootEdges
+pub mod ByNumber

@@ -13,3 +13,4 @@ pub mod Reading
 pub mod Edges
 pub mod RootEdges
 pub mod ByNumber
+pub mod Dealing

@@ -101,7 +101,7 @@ pub record IsVertexAt (q : TilePlan) (place v : ℕ) : Type 0 where
   pub below : v < vertices q
 
 -- a one-to-one function from the numbers below n to themselves takes each value
-onto : (f : ℕ → ℕ) (n k : ℕ) → Into f n n → IsOneToOne n f → k < n → (v : ℕ) × ((v < n) × (f v ≡ k))
+pub onto : (f : ℕ → ℕ) (n k : ℕ) → Into f n n → IsOneToOne n f → k < n → (v : ℕ) × ((v < n) × (f v ≡ k))
 onto f n k into one l =
     elim (least_below (λ v. f v == k) n) [
       | inl found ↦ (found.at, (found.low, eqb-true (f found.at) k found.passes))

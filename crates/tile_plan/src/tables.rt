@@ -10,6 +10,7 @@ ghost use Rattle.tile_plan.specs.Placing.{AreKeys, IsTable, start_by};
 ghost use Rattle.tile_plan.specs.Plan.{IsEdgeAmong};
 
 use crate::frame::Frame;
+use crate::placing;
 use crate::site::{Grid, Row, Site, find, lot_of};
 use edge_order::Order;
 use hg_base::{Graph, PlacedEdge};
@@ -153,6 +154,7 @@ pub(crate) fn lots(
     starts: &[u32],
     places: &[u32],
 ) -> Result<Vec<PlacedEdge>, AllocError>
+    requires few { length numbers.now ≤ 4194304 }
     requires numbers { length numbers.now ≡ length order.now.edges }
     requires lots { (i : ℕ) → i < length numbers.now → slice_index numbers.now i + 1 < length starts.now }
     requires starts { IsTable (start_by (slice_index numbers.now) (length numbers.now)) (length starts.now) starts.now }
@@ -162,23 +164,15 @@ pub(crate) fn lots(
         slice_range v.items (slice_index starts.now i) (slice_index starts.now (i + 1))
         ≡ map placed (renamed (slice_index places.now) (filter (λ e. lot e == i) order.now.edges))) }
 {
-    let none = PlacedEdge {
-        rank: 0,
-        a: 0,
-        b: 0,
-    };
-    let mut next = Vec::from_slice(alloc, starts)?;
-    let mut lots = vec![in alloc; none; order.len() as usize]?;
-    for rank in 0..order.len() {
-        let edge = order.at(rank);
-        let lot = numbers[rank as usize] as usize;
-        let place = next[lot];
-        next[lot] = place + 1;
-        lots[place as usize] = PlacedEdge {
-            rank,
+    let by_lot = placing::in_order(alloc, numbers, starts)?;
+    let mut lots = Vec::with_capacity(alloc, by_lot.len())?;
+    for rank in &by_lot {
+        let edge = order.at(*rank);
+        lots.push(PlacedEdge {
+            rank: *rank,
             a: places[edge.u as usize],
             b: places[edge.v as usize],
-        };
+        })?;
     }
     Ok(lots)
 }

@@ -3,7 +3,7 @@ use Rattle.std.specs.Prelude.{slice_index}
 use Rattle.std.proofs.lemmas.List.{map-append, length-map, get_or_default}
 use Rattle.hg_base.specs.Graph.{WeightedGraph}
 use Rattle.hg_base.specs.Edges.{ListedEdge, EdgeList, IsIn}
-use Rattle.hg_base.specs.Rank.{listed, number_at, ranked}
+use Rattle.hg_base.specs.Rank.{listed, number_at}
 use Rattle.hg_base.specs.Rising.{IsRising}
 use Rattle.hg_base.specs.declared.graph.Edge.{Edge}
 use Rattle.edge_order.specs.Order.{EdgeOrder, number_at_rank, order_of}

@@ -1,6 +1,5 @@
 use Rattle.std.proofs.Common.{length, ap, arith}
-use Rattle.std.specs.Prelude.{slice_index}
-use Rattle.tile_plan.proofs.Reading.{IsVertexAt, holds-as, vertex-found}
+use Rattle.tile_plan.proofs.Reading.{holds-as, vertex-found}
 use Rattle.tile_plan.proofs.plan.Plan.vertex_at.Goals as goal
 
 pub overflow_cast-result : goal.overflow_cast-result

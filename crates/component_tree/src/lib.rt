@@ -3,6 +3,8 @@
 #![tactic(auto)]
 
 mod components;
+mod laws;
+mod nodes;
 mod report;
 mod side;
 mod tree;
@@ -10,6 +12,7 @@ mod values;
 mod weights;
 
 pub use components::component_tree;
+pub use laws::component_trees;
 pub use report::write_components;
 pub use side::Side;
 pub use tree::ComponentTree;

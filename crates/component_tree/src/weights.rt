@@ -1,10 +1,10 @@
-ghost use Rattle.std.specs.Prelude.{◌≡◌, IfOk, length};
-ghost use Rattle.component_tree.specs.Weighed.{weighed_graph};
+ghost use Rattle.std.specs.Prelude.{◌≡◌, ◌<◌, ◌≤◌, IfOk, length, map};
+ghost use Rattle.component_tree.specs.Weighed.{weight_between, weighed_edge, weighed_graph};
 
 use crate::side::Side;
 use crate::values::Values;
-use hg_base::{Graph, OutOfMemory};
-use std::alloc::Global;
+use hg_base::{Edge, Graph, OutOfMemory};
+use std::alloc::{AllocError, Global};
 
 /// The graph with the same ends and areas, in which an edge weighs the greater value of its ends for a min tree, and
 /// 4,294,967,295 less the lesser one for a max tree. There is one value for each vertex.
@@ -17,6 +17,47 @@ pub fn weighed(
     requires { length values.now ≡ graph.now.n }
     ensures { IfOk result (λ weighed. weighed ≡ weighed_graph side values.now graph.now) }
 {
-    let _ = (alloc, graph, values, side);
-    Err(OutOfMemory)
+    let areas = areas(alloc, graph).map_err(|_| OutOfMemory)?;
+    let edges = edges(alloc, graph, values, side).map_err(|_| OutOfMemory)?;
+    Ok(Graph::with_areas(graph.n(), areas, edges))
+}
+
+// The weight of an edge between two values.
+fn weight_between(side: Side, a: u32, b: u32) -> u32
+    ensures { result ≡ weight_between side a b }
+{
+    match side {
+        Side::Min => a.max(b),
+        Side::Max => u32::MAX - a.min(b),
+    }
+}
+
+// The edges with the weights of their ends' values.
+fn edges(
+    alloc: Global,
+    graph: &Graph,
+    values: &Values,
+    side: Side,
+) -> Result<Vec<Edge>, AllocError>
+    requires { length values.now ≡ graph.now.n }
+    ensures { IfOk result (λ edges. edges.items ≡ map (weighed_edge side values.now) graph.now.edges) }
+{
+    let mut edges = Vec::with_capacity(alloc, graph.m() as usize)?;
+    for e in 0..graph.m() {
+        let Edge { u, v, .. } = graph.edge(e);
+        let w = weight_between(side, values.value(u), values.value(v));
+        edges.push(Edge { u, v, w })?;
+    }
+    Ok(edges)
+}
+
+// The areas of the vertices.
+fn areas(alloc: Global, graph: &Graph) -> Result<Vec<u32>, AllocError>
+    ensures { IfOk result (λ areas. areas.items ≡ graph.now.areas) }
+{
+    let mut areas = Vec::with_capacity(alloc, graph.n() as usize)?;
+    for v in 0..graph.n() {
+        areas.push(graph.area(v))?;
+    }
+    Ok(areas)
 }

@@ -11,7 +11,7 @@ use Rattle.hg_base.proofs.Counts.{count_below-zero}
 use Rattle.hg_base.proofs.Passing.{passing, passing-at}
 
 -- the numbers from a on are in their range
-IsIn-from : (a n y : ℕ) → a ≤ y → y < a + n → IsIn y (range_with_len a n)
+pub IsIn-from : (a n y : ℕ) → a ≤ y → y < a + n → IsIn y (range_with_len a n)
 IsIn-from a zero y low high = absurd (omega arith)
 IsIn-from a (suc n) y low high =
     elim (cases_order a y) [

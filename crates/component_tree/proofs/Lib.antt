@@ -5,3 +5,4 @@ pub mod Built
 pub mod Sinking
 pub mod Heads
 pub mod Unique
+pub mod Turning

@@ -6,3 +6,6 @@ pub mod Sinking
 pub mod Heads
 pub mod Unique
 pub mod Turning
+pub mod Ends
+pub mod Sided
+pub mod Flooded

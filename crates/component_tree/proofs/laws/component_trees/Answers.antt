@@ -1,9 +1,10 @@
-use Rattle.component_tree.proofs.Built.{built-tree}
-use Rattle.component_tree.proofs.Sinking.{sunk}
-use Rattle.component_tree.proofs.Heads.{in-head}
-use Rattle.component_tree.proofs.Unique.{only-one}
-use Rattle.component_tree.proofs.Turning.{turned-tree}
+use Rattle.hg_base.proofs.Ranked.{AreWithin-ranked}
+use Rattle.component_tree.proofs.Sided.{value-fits, one-tree}
+use Rattle.component_tree.proofs.Ends.{ends-tree}
+use Rattle.component_tree.proofs.Flooded.{flooded}
 use Rattle.component_tree.proofs.laws.component_trees.Goals as goal
 
 pub returns : goal.returns
-returns c = ?
+returns c = record {
+  only_one = λ side values g tree is values_are long c'. one-tree side values g tree (AreWithin-ranked g is) (value-fits values values_are.each) c';
+}

@@ -9,3 +9,4 @@ pub mod Turning
 pub mod Ends
 pub mod Sided
 pub mod Flooded
+pub mod PassSteps

@@ -9,16 +9,7 @@ use Rattle.hg_base.proofs.Members.{IsIn-filter, IsIn-kept}
 use Rattle.hg_base.proofs.Walks.{joined-walk, walk-among, Joined-joined}
 use Rattle.component_tree.specs.declared.side.Side.TheVariants.{Min}
 use Rattle.component_tree.specs.Components.{inside}
-
--- an edge weighs the greater value of its ends
-pub record IsGreaterEnd (f : ℕ → ℕ) (e : ListedEdge) : Type 0 where
-  pub first : f e.u ≤ e.weight
-  pub second : f e.v ≤ e.weight
-  pub either : (e.weight ≡ f e.u) ⊎ (e.weight ≡ f e.v)
-
--- so for each edge
-abbrev pub AreGreaterEnds : (ℕ → ℕ) → EdgeList → Type 0
-AreGreaterEnds f s = (e : ListedEdge) → IsIn e s → IsGreaterEnd f e
+pub use Rattle.component_tree.specs.Passes.{IsGreaterEnd, AreGreaterEnds}
 
 -- the edges inside a level are those of weight at most it
 light-inside : (f : ℕ → ℕ) (s : EdgeList) (k : ℕ) → AreGreaterEnds f s → (e : ListedEdge) → IsIn e (at_most s k) → IsIn e (inside Min f s k)

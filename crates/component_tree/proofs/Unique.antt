@@ -26,7 +26,7 @@ list-values (x ∷ xs) a g h =
     ap (λ (y : ℕ). y ∷ xs) first
     ∙ ap (λ (l : List ℕ). g a ∷ l) (list-values xs (a + 1) g (λ i lt. h (suc i) (omega arith) ∙ (let e : a + suc i ≡ a + 1 + i = omega arith in ap g e)))
 
-range-parts : (a n m : ℕ) → range_with_len a (n + m) ≡ range_with_len a n ++ range_with_len (a + n) m
+pub range-parts : (a n m : ℕ) → range_with_len a (n + m) ≡ range_with_len a n ++ range_with_len (a + n) m
 range-parts a zero m = let e : 0 + m ≡ m = omega arith in let q : a ≡ a + 0 = omega arith in ap (range_with_len a) e ∙ ap (λ (b : ℕ). range_with_len b m) q
 range-parts a (suc n) m =
     let e : suc n + m ≡ suc (n + m) = omega arith in

@@ -1,10 +1,14 @@
 -- What the passes over the nodes of a weighed graph's tree give.
-use Rattle.std.specs.Prelude.{◌≡◌, ◌≢◌, ℕ, ◌==◌, ◌+◌, ◌-◌, ◌<◌, ◌≤◌, Bool, not, ◌||◌, List, length, map, nat_lt, get_or, IsTrue, if◌then◌else◌}
+use Rattle.std.specs.Prelude.{◌≡◌, ◌≢◌, ℕ, ◌==◌, ◌+◌, ◌<◌, ◌≤◌, ◌⊎◌, Bool, not, ◌||◌, List, length, map, nat_lt, get_or, IsTrue, if◌then◌else◌}
 use Rattle.std.specs.List.{range_with_len}
 use Rattle.hg_base.specs.Tree.{ParentTree, parent, altitude, IsAbove}
 use Rattle.component_tree.specs.declared.side.Side.{Side}
 use Rattle.component_tree.specs.declared.nodes.Component.{Component}
-use Rattle.component_tree.specs.MinTree.{turned, value_at}
+use Rattle.component_tree.specs.declared.side.Side.TheVariants.{Min}
+use Rattle.hg_base.specs.Edges.{ListedEdge, EdgeList, IsIn, AreApart, AreWithin}
+use Rattle.hg_base.specs.Saliency.{AreByWeight}
+use Rattle.component_tree.specs.Components.{ComponentLists, IsComponentTree}
+use Rattle.component_tree.specs.MinTree.{turned, turned_back, value_at}
 
 -- the level of a node, as a min tree sees it: a leaf's value, another node's altitude
 abbrev pub level_in : Side → List ℕ → ParentTree → ℕ → ℕ
@@ -40,7 +44,7 @@ pub record IsNoLater (a b : Component) : Type 0 where
 
 -- the components of a tree's nodes, each once, in order
 pub record AreComponents (t : ParentTree) (levels leasts : List ℕ) (list : List Component) : Type 0 where
-  pub few : length list ≤ length t.parents
+  pub few : length list ≤ 2097151
   pub node : (k : ℕ) → k < length list → (component_at list k).node < length t.parents
   pub each : (k : ℕ) → k < length list → component_at list k ≡ component_of levels leasts (component_at list k).node
   pub is : (k : ℕ) → k < length list → IsTrue (is_component t levels (component_at list k).node)
@@ -68,6 +72,37 @@ pub record AreOwnPlaces (t : ParentTree) (list : List Component) (places : List 
   pub one_each : length places ≡ length t.parents
   pub own : (k : ℕ) → k < length list → get_or places (component_at list k).node 0 ≡ k
 
--- the parents of the leaves, and then those of the components
-abbrev pub parents_by : ParentTree → List ℕ → List Component → ℕ → ℕ
-parents_by t places list i = t.leaves + get_or places (if nat_lt i t.leaves then i else parent t (component_at list (i - t.leaves)).node) 0
+-- the components of a tree's nodes and the places at its nodes
+abbrev pub ArePlaced : ParentTree → List Component → List ℕ → Type 0
+ArePlaced t list places = (levels : List ℕ) × ((leasts : List ℕ) × (AreComponents t levels leasts list × ArePlaces t levels list places))
+
+-- the parent of a leaf: the node at its place
+abbrev pub leaf_parent : ParentTree → List ℕ → ℕ → ℕ
+leaf_parent t places x = t.leaves + get_or places x 0
+
+-- the parent of a component: the node at the place of its node's parent
+abbrev pub component_parent : ParentTree → List ℕ → Component → ℕ
+component_parent t places c = t.leaves + get_or places (parent t c.node) 0
+
+-- an edge weighs the greater value of its ends
+pub record IsGreaterEnd (f : ℕ → ℕ) (e : ListedEdge) : Type 0 where
+  pub first : f e.u ≤ e.weight
+  pub second : f e.v ≤ e.weight
+  pub either : (e.weight ≡ f e.u) ⊎ (e.weight ≡ f e.v)
+
+-- so for each edge
+abbrev pub AreGreaterEnds : (ℕ → ℕ) → EdgeList → Type 0
+AreGreaterEnds f s = (e : ListedEdge) → IsIn e s → IsGreaterEnd f e
+
+-- edges by weight between vertices below n, each of which weighs the greater value of its ends
+pub record AreFloodEdges (f : ℕ → ℕ) (n : ℕ) (s : EdgeList) : Type 0 where
+  pub apart : AreApart s
+  pub within : AreWithin n s
+  pub by_weight : AreByWeight s
+  pub weights : AreGreaterEnds f s
+
+-- the tree is a min tree of the turned values, with its levels turned back
+pub record IsTurnedTree (side : Side) (values : List ℕ) (n : ℕ) (s : EdgeList) (tree : ComponentLists) : Type 0 where
+  pub min : ComponentLists
+  pub is : IsComponentTree Min (λ x. turned side (value_at values x)) n s min
+  pub turned : tree ≡ turned_back side min

@@ -52,7 +52,11 @@ fn push_altitudes(tree: &Tree, levels: &mut Vec<u32>) -> Result<(), AllocError>
 fn own_numbers(alloc: Global, n: u32) -> Result<Vec<u32>, AllocError>
     ensures { IfOk result (λ numbers. numbers.items ≡ range_with_len 0 n) }
 {
-    (0..n).collect(alloc)
+    let mut numbers = Vec::with_capacity(alloc, n as usize)?;
+    for i in 0..n {
+        numbers.push(i)?;
+    }
+    Ok(numbers)
 }
 
 // For each node of the tree the least leaf below it.
@@ -90,7 +94,8 @@ fn by_node(
 ) -> Result<Vec<Component>, AllocError>
     requires levels { length levels.now ≡ nodes tree.now }
     requires leasts { length leasts.now ≡ nodes tree.now }
-    ensures { IfOk result (λ list. list.items ≡ map (component_of levels.now leasts.now) (filter (is_component tree.now levels.now) (range_with_len 0 (nodes tree.now)))) }
+    ensures forest { IfOk result (λ list. IsForest tree.now) }
+    ensures list { IfOk result (λ list. list.items ≡ map (component_of levels.now leasts.now) (filter (is_component tree.now levels.now) (range_with_len 0 (nodes tree.now)))) }
 {
     let mut list = Vec::new(alloc);
     for i in 0..tree.nodes() {
@@ -114,7 +119,8 @@ pub(crate) fn components(
 ) -> Result<Vec<Component>, AllocError>
     requires levels { length levels.now ≡ nodes tree.now }
     requires leasts { length leasts.now ≡ nodes tree.now }
-    ensures { IfOk result (λ list. AreComponents tree.now levels.now leasts.now list.items) }
+    ensures forest { IfOk result (λ list. IsForest tree.now) }
+    ensures list { IfOk result (λ list. AreComponents tree.now levels.now leasts.now list.items) }
 {
     let mut list = by_node(alloc, tree, levels, leasts)?;
     list.sort_unstable();

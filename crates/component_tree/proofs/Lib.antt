@@ -10,3 +10,7 @@ pub mod Ends
 pub mod Sided
 pub mod Flooded
 pub mod PassSteps
+pub mod Sorting
+pub mod Leasts
+pub mod Placing
+pub mod Result

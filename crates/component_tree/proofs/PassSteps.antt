@@ -2,7 +2,7 @@
 use Rattle.std.proofs.Common.{◌≡◌, ℕ, zero, suc, ◌+◌, ◌-◌, ◌<◌, ◌≤◌, Bool, true, false, cond, inl, inr, refl, sym, ◌∙◌, subst, ap, arith, List, [], ◌∷◌, ◌++◌, length, map, get_or, take, append_assoc, append-nil, add-one}
 use Rattle.std.specs.Prelude.{Option, Some, None, filter, slice_get, nat_lt, if◌then◌else◌, codes}
 use Rattle.std.specs.List.{range_with_len, flat_map}
-use Rattle.std.proofs.lemmas.Bool.{cases_lt, lt-ltb, ge-ltb}
+use Rattle.std.proofs.lemmas.Bool.{lt-ltb, le-ltb}
 use Rattle.std.proofs.lemmas.List.{map-append}
 use Rattle.std.proofs.lemmas.List.FromFn.{map-range_with_len_more}
 use Rattle.hg_base.specs.Text.{line}
@@ -57,7 +57,7 @@ split-values f g n m first items low front whole =
     let z : 0 + n ≡ n = omega arith in
     whole
     ∙ ap (λ (l : List ℕ). l ++ map g (range_with_len n (m - n))) (front ∙ map-agree f h 0 n (λ i l u. sym (rw (lt-ltb i n (omega arith)) refl)))
-    ∙ ap (λ (l : List ℕ). map h (range_with_len 0 n) ++ l) (map-agree g h n (m - n) (λ i l u. sym (rw (ge-ltb i n l) refl)))
+    ∙ ap (λ (l : List ℕ). map h (range_with_len 0 n) ++ l) (map-agree g h n (m - n) (λ i l u. sym (rw (le-ltb i n l) refl)))
     ∙ sym (map-append h (range_with_len 0 n) (range_with_len n (m - n)))
     ∙ ap (λ (k : ℕ). map h (range_with_len 0 n ++ range_with_len k (m - n))) (sym z)
     ∙ ap (map h) (sym (range-parts 0 n (m - n)))

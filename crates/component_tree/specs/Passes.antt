@@ -22,6 +22,10 @@ levels_in side values t = map (level_in side values t) (range_with_len 0 (length
 abbrev pub is_component : ParentTree → List ℕ → ℕ → Bool
 is_component t levels i = (parent t i == i) || not (get_or levels i 0 == get_or levels (parent t i) 0)
 
+-- each node is above a leaf
+abbrev pub HasLeaves : ParentTree → Type 0
+HasLeaves t = (i : ℕ) → i < length t.parents → (x : ℕ) × ((x < t.leaves) × IsAbove t i x)
+
 -- for each node the least leaf below it
 pub record AreLeasts (t : ParentTree) (leasts : List ℕ) : Type 0 where
   pub one_each : length leasts ≡ length t.parents

@@ -9,7 +9,7 @@ ghost use Rattle.component_tree.specs.Components.{IsComponentTree};
 ghost use Rattle.component_tree.specs.MinTree.{turned, value_at, component_tree_of};
 ghost use Rattle.component_tree.specs.Values.{AreValues};
 ghost use Rattle.component_tree.specs.Weighed.{weighed_graph, IsWeighed};
-ghost use Rattle.component_tree.specs.Passes.{ArePlaced, leaf_parent, component_parent, AreFloodEdges, IsTurnedTree};
+ghost use Rattle.component_tree.specs.Passes.{ArePlaced, leaf_parent, component_parent, HasLeaves, AreFloodEdges, IsTurnedTree};
 
 use crate::nodes::{Component, components, leasts, levels, places};
 use crate::side::{Side, turned};
@@ -38,8 +38,26 @@ pub fn component_tree(
     ensures components { (g : WeightedGraph) → graph.now ≡ weighed_graph side values.now g →
         IfOk result (λ tree. IsComponentTree side (value_at values.now) g.n (ranked g) tree) }
 {
+    made(alloc, values, side, graph, tree).map_err(|_| OutOfMemory)
+}
+
+fn made(
+    alloc: Global,
+    values: &Values,
+    side: Side,
+    graph: &Graph,
+    tree: &Tree,
+) -> Result<ComponentTree, AllocError>
+    requires values { length values.now ≡ graph.now.n }
+    requires weighed { IsWeighed side values.now graph.now }
+    requires tree { tree.now ≡ graph_tree graph.now }
+    ensures function { (g : WeightedGraph) → graph.now ≡ weighed_graph side values.now g →
+        IfOk result (λ tree. tree ≡ component_tree_of side values.now g) }
+    ensures components { (g : WeightedGraph) → graph.now ≡ weighed_graph side values.now g →
+        IfOk result (λ tree. IsComponentTree side (value_at values.now) g.n (ranked g) tree) }
+{
     read(graph, values);
-    tree_of_nodes(alloc, values, side, tree).map_err(|_| OutOfMemory)
+    tree_of_nodes(alloc, values, side, tree)
 }
 
 // Reads each edge, and a value. A graph vouches for the ends of an edge only where it is read.
@@ -65,6 +83,7 @@ fn tree_of_nodes(
     requires values { length values.now ≡ tree.now.leaves }
     requires fits { AreValues values.now }
     requires low { (i : ℕ) → altitude tree.now i ≤ 4294967295 }
+    requires leaves { HasLeaves tree.now }
     ensures { (s : EdgeList) → AreFloodEdges (λ x. turned side (value_at values.now x)) tree.now.leaves s → tree.now ≡ tree_of tree.now.leaves s →
         IfOk result (IsTurnedTree side values.now tree.now.leaves s) }
 {

@@ -2,7 +2,7 @@ ghost use Rattle.std.specs.Prelude.{◌≡◌, ℕ, ◌<◌, ◌≤◌, ◌-◌,
 ghost use Rattle.std.specs.List.{range_with_len};
 ghost use Rattle.hg_base.specs.Tree.{altitude};
 ghost use Rattle.partition_tree.specs.Forest.{nodes, IsForest};
-ghost use Rattle.component_tree.specs.Passes.{levels_in, is_component, AreLeasts, component_of, AreComponents, AreOwnPlaces, ArePlaces};
+ghost use Rattle.component_tree.specs.Passes.{levels_in, is_component, HasLeaves, AreLeasts, component_of, AreComponents, AreOwnPlaces, ArePlaces};
 
 use crate::side::{Side, turned};
 use crate::values::Values;
@@ -61,17 +61,24 @@ fn own_numbers(alloc: Global, n: u32) -> Result<Vec<u32>, AllocError>
 
 // For each node of the tree the least leaf below it.
 pub(crate) fn leasts(alloc: Global, tree: &Tree) -> Result<Vec<u32>, AllocError>
+    requires { HasLeaves tree.now }
     ensures { IfOk result (λ leasts. AreLeasts tree.now leasts.items) }
 {
     let mut leasts = own_numbers(alloc, tree.nodes())?;
+    send_up(tree, &mut leasts);
+    Ok(leasts)
+}
+
+// Sends the least number below each node up to its parent.
+fn send_up(tree: &Tree, leasts: &mut [u32])
+    requires leaves { HasLeaves tree.now }
+    requires own { leasts.old ≡ range_with_len 0 (nodes tree.now) }
+    ensures { AreLeasts tree.now leasts.new }
+{
     for i in 0..tree.nodes() {
         let parent = tree.parent(i) as usize;
-        let least = leasts[i as usize];
-        if least < leasts[parent] {
-            leasts[parent] = least;
-        }
+        leasts[parent] = leasts[parent].min(leasts[i as usize]);
     }
-    Ok(leasts)
 }
 
 // Whether the vertices below node i are those of a component at its level: it is a root, or of another level than its

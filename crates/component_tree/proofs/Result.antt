@@ -1,5 +1,5 @@
 -- The lists that the passes build are those of the component tree.
-use Rattle.std.proofs.Common.{◌≡◌, ℕ, ◌+◌, ◌-◌, ◌<◌, ◌≤◌, inl, inr, refl, sym, ◌∙◌, subst, ap, arith, List, ◌++◌, length, length-append, map, get_or}
+use Rattle.std.proofs.Common.{◌≡◌, ℕ, zero, suc, ◌+◌, ◌-◌, ◌<◌, ◌≤◌, inl, inr, refl, sym, ◌∙◌, subst, ap, arith, List, [], ◌∷◌, ◌++◌, length, length-append, map, get_or}
 use Rattle.std.specs.Prelude.{Some, slice_get, nat_lt, All, if◌then◌else◌}
 use Rattle.std.specs.Option.{option_map_or}
 use Rattle.std.specs.List.{range_with_len}
@@ -8,7 +8,6 @@ use Rattle.std.proofs.lemmas.Option.{get_or_from_slice_get}
 use Rattle.std.proofs.lemmas.Simd.{map-map}
 use Rattle.std.proofs.lemmas.List.{map-append, length-map, get_or-map, get_or-append-add}
 use Rattle.std.proofs.lemmas.List.FromFn.{length-map-range_with_len, get_or-map-range_with_len}
-use Rattle.std.proofs.Math.Seq.{get_or-append_left}
 use Rattle.hg_base.specs.declared.graph.Edge.{Edge}
 use Rattle.hg_base.specs.Graph.{WeightedGraph, JoinsTwo, first_end, second_end}
 use Rattle.hg_base.specs.Edges.{EdgeList, AreWithin}
@@ -37,9 +36,14 @@ abbrev pub lists : ℕ → List ℕ → List ℕ → ComponentLists
 lists leaves parents levels = record { leaves = leaves; parents = parents; levels = levels }
 
 -- what stands in two lists put together
+front-of : (xs ys : List ℕ) (i : ℕ) → i < length xs → get_or (xs ++ ys) i 0 ≡ get_or xs i 0
+front-of [] ys i lt = absurd (omega arith)
+front-of (x ∷ xs) ys zero lt = refl
+front-of (x ∷ xs) ys (suc i) lt = front-of xs ys i (omega arith)
+
 front-at : (g : ℕ → ℕ) (n i : ℕ) (ys : List ℕ) → i < n → get_or (map g (range_with_len 0 n) ++ ys) i 0 ≡ g i
 front-at g n i ys lt =
-    get_or-append_left (map g (range_with_len 0 n)) ys i 0 (let l = length-map-range_with_len g 0 n in omega (arith, l, lt))
+    front-of (map g (range_with_len 0 n)) ys i (let l = length-map-range_with_len g 0 n in omega (arith, l, lt))
     ∙ get_or-map-range_with_len g 0 n i i 0 lt (omega arith)
 
 back-at : (g : ℕ → ℕ) (n k : ℕ) (h : Component → ℕ) (list : List Component) → k < length list → get_or (map g (range_with_len 0 n) ++ map h list) (n + k) 0 ≡ h (component_at list k)

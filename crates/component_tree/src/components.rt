@@ -93,9 +93,13 @@ fn tree_of_nodes(
     let places = places(alloc, tree, &levels, &list)?;
     let mut parents = leaf_parents(alloc, tree, &places, &list)?;
     push_parents(tree, &places, &list, &mut parents)?;
-    let mut levels = leaf_levels(alloc, values, tree, &list)?;
-    push_levels(side, &list, &mut levels)?;
-    Ok(ComponentTree::from_lists(tree.leaves(), parents, levels))
+    let mut turned_levels = leaf_levels(alloc, values, tree, &list)?;
+    push_levels(side, &list, &mut turned_levels)?;
+    Ok(ComponentTree::from_lists(
+        tree.leaves(),
+        parents,
+        turned_levels,
+    ))
 }
 
 // The parents of the leaves.

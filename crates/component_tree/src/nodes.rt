@@ -27,7 +27,8 @@ pub(crate) fn levels(
 ) -> Result<Vec<u32>, AllocError>
     requires values { length values.now ≡ tree.now.leaves }
     requires low { (i : ℕ) → altitude tree.now i ≤ 4294967295 }
-    ensures { IfOk result (λ levels. levels.items ≡ levels_in side values.now tree.now) }
+    ensures levels { IfOk result (λ levels. levels.items ≡ levels_in side values.now tree.now) }
+    ensures len { IfOk result (λ levels. length levels.items ≡ nodes tree.now) }
 {
     let mut levels = Vec::with_capacity(alloc, tree.nodes() as usize)?;
     for x in 0..tree.leaves() {

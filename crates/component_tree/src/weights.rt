@@ -19,8 +19,15 @@ pub fn weighed(
     requires { length values.now ≡ graph.now.n }
     ensures { IfOk result (λ weighed. weighed ≡ weighed_graph side values.now graph.now) }
 {
-    let areas = areas(alloc, graph).map_err(|_| OutOfMemory)?;
-    let edges = edges(alloc, graph, values, side).map_err(|_| OutOfMemory)?;
+    made(alloc, graph, values, side).map_err(|_| OutOfMemory)
+}
+
+fn made(alloc: Global, graph: &Graph, values: &Values, side: Side) -> Result<Graph, AllocError>
+    requires { length values.now ≡ graph.now.n }
+    ensures { IfOk result (λ weighed. weighed ≡ weighed_graph side values.now graph.now) }
+{
+    let areas = areas(alloc, graph)?;
+    let edges = edges(alloc, graph, values, side)?;
     Ok(Graph::with_areas(graph.n(), areas, edges))
 }
 

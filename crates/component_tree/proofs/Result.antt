@@ -25,12 +25,14 @@ use Rattle.component_tree.specs.declared.nodes.Component.{Component}
 use Rattle.component_tree.specs.Components.{ComponentLists, IsComponentTree}
 use Rattle.component_tree.specs.MinTree.{turned, turned_back, value_at, component_tree_of}
 use Rattle.component_tree.specs.Weighed.{weighed_graph}
-use Rattle.component_tree.specs.Passes.{level_in, levels_in, component_at, AreLeasts, AreComponents, ArePlaces, leaf_parent, component_parent, AreGreaterEnds, AreFloodEdges, IsTurnedTree}
+use Rattle.component_tree.specs.Passes.{level_in, levels_in, component_at, AreLeasts, AreComponents, ArePlaces, leaf_parent, component_parent, HasLeaves, AreGreaterEnds, AreFloodEdges, IsTurnedTree}
 use Rattle.component_tree.proofs.Floods.{IsFlood}
 use Rattle.component_tree.proofs.Flooded.{flooded-tree}
 use Rattle.component_tree.proofs.Built.{IsBuilt, built-tree}
 use Rattle.component_tree.proofs.Ends.{greater-ends, weighed-ends, ends-weighed, within-ends, ends-tree}
-use Rattle.component_tree.proofs.Sided.{sided-tree, one-tree}
+use Rattle.component_tree.proofs.Sided.{sided-tree, one-tree, value-fits}
+use Rattle.component_tree.specs.Values.{AreValues}
+use Rattle.partition_tree.proofs.ForestClimbs.{forest-leaves}
 
 abbrev pub lists : ℕ → List ℕ → List ℕ → ComponentLists
 lists leaves parents levels = record { leaves = leaves; parents = parents; levels = levels }
@@ -62,11 +64,11 @@ turned-twice Min v fits = refl
 turned-twice Max v fits = omega (arith, fits)
 
 module _ (side : Side) (values : List ℕ) (t : ParentTree) (s : EdgeList) (levels leasts : List ℕ) (list : List Component) (places : List ℕ) where
-  abbrev f : ℕ → ℕ
+  abbrev pub f : ℕ → ℕ
   f x = turned side (value_at values x)
 
   -- the tree before its levels are turned back
-  abbrev min : ComponentLists
+  abbrev pub min : ComponentLists
   min = record {
     leaves = t.leaves;
     parents = map (leaf_parent t places) (range_with_len 0 t.leaves) ++ map (component_parent t places) list;
@@ -144,3 +146,48 @@ turned-function side values w g tree e fits all t =
     one-tree side values g tree
     (within-ends g.n (ranked (weighed_graph side values g)) (ranked g) (ends-weighed side values g) (subst (λ (u : WeightedGraph). AreWithin u.n (ranked u)) e (ranked-within w all))) fits
     (turned-components side values w g tree e fits t)
+
+-- each node of the tree of a flood is above a leaf
+pub flood-leaves : (f : ℕ → ℕ) (n : ℕ) (s : EdgeList) → AreFloodEdges f n s → HasLeaves (tree_of n s)
+flood-leaves f n s e i h = (level-tree n s e.apart e.within e.by_weight).some_leaf i h
+
+-- the parents of the leaves, and those of the components behind them
+pub parents-whole : (t : ParentTree) (places d e : List ℕ) (list l : List Component) (first whole : List ℕ) → d ≡ places → e ≡ places → l ≡ list →
+    first ≡ map (leaf_parent t d) (range_with_len 0 t.leaves) → whole ≡ first ++ map (component_parent t e) l →
+    whole ≡ map (leaf_parent t places) (range_with_len 0 t.leaves) ++ map (component_parent t places) list
+parents-whole t places d e list l first whole dp ep ll front all =
+    all
+    ∙ ap (λ (x : List ℕ). x ++ map (component_parent t e) l) (front ∙ ap (λ (x : List ℕ). map (leaf_parent t x) (range_with_len 0 t.leaves)) dp)
+    ∙ ap (λ (x : List ℕ). map (leaf_parent t places) (range_with_len 0 t.leaves) ++ map (component_parent t x) l) ep
+    ∙ ap (λ (x : List Component). map (leaf_parent t places) (range_with_len 0 t.leaves) ++ map (component_parent t places) x) ll
+
+-- the levels of the leaves, and those of the components behind them
+pub levels-whole : (side : Side) (values : List ℕ) (n : ℕ) (list l : List Component) (first whole : List ℕ) → l ≡ list → first ≡ map (value_at values) (range_with_len 0 n) →
+    whole ≡ first ++ map (λ (c : Component). turned side c.level) l → whole ≡ map (value_at values) (range_with_len 0 n) ++ map (λ (c : Component). turned side c.level) list
+levels-whole side values n list l first whole ll front all =
+    all
+    ∙ ap (λ (x : List ℕ). x ++ map (λ (c : Component). turned side c.level) l) front
+    ∙ ap (λ (x : List Component). map (value_at values) (range_with_len 0 n) ++ map (λ (c : Component). turned side c.level) x) ll
+
+-- not too many
+pub parents-few : (t : ParentTree) (levels leasts places : List ℕ) (list : List Component) (whole : List ℕ) → IsForest t → AreComponents t levels leasts list →
+    whole ≡ map (leaf_parent t places) (range_with_len 0 t.leaves) ++ map (component_parent t places) list → length whole ≤ 4194304
+parents-few t levels leasts places list whole forest c e =
+    let l = both-long (leaf_parent t places) t.leaves (component_parent t places) list in
+    let w = ap (λ (x : List ℕ). length x) e in
+    let few = c.few in
+    let leaves = forest.few_leaves in
+    omega (arith, l, w, few, leaves)
+
+-- what is built is the tree of the turned values, with its levels turned back
+pub finished : (side : Side) (values : List ℕ) (t : ParentTree) (s : EdgeList) (levels leasts : List ℕ) (list : List Component) (places parents out : List ℕ) (leaves : ℕ) (tree : ComponentLists) →
+    AreValues values → IsForest t → levels ≡ levels_in side values t → AreLeasts t leasts → AreComponents t levels leasts list → ArePlaces t levels list places →
+    parents ≡ map (leaf_parent t places) (range_with_len 0 t.leaves) ++ map (component_parent t places) list →
+    out ≡ map (value_at values) (range_with_len 0 t.leaves) ++ map (λ (c : Component). turned side c.level) list →
+    leaves ≡ t.leaves → tree ≡ lists leaves parents out →
+    AreFloodEdges (λ x. turned side (value_at values x)) t.leaves s → t ≡ tree_of t.leaves s → IsTurnedTree side values t.leaves s tree
+finished side values t s levels leasts list places parents out leaves tree fits forest are l c p up os ls made e same = record {
+  min = min side values t s levels leasts list places;
+  is = min-is side values t s levels leasts list places forest (forest-leaves t forest) are l c p e same;
+  turned = made ∙ ap (λ (n : ℕ). lists n parents out) ls ∙ min-turned side values t s levels leasts list places (value-fits values fits.each) parents out up os;
+}

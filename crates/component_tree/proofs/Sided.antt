@@ -66,3 +66,8 @@ one-tree Max values g tree w fits c =
           let m = c.reached i (record { no_leaf = omega (arith, l, inner); within = omega (arith, o, lt) }) in
           let f = fits m.0 in omega (arith, f, m.1.1))
     ]
+
+-- a turned value fits 32 bits too
+pub turned-fits : (side : Side) (v : ℕ) → v ≤ 4294967295 → turned side v ≤ 4294967295
+turned-fits Min v fits = fits
+turned-fits Max v fits = omega arith

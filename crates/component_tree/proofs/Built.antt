@@ -131,11 +131,14 @@ module _ (t : ParentTree) (f : ℕ → ℕ) (s : EdgeList) (levels leasts : List
       let up = order-at k l lt hl in
       elim (cases_eq (lvl k) (lvl l)) [
         | inr differ ↦ inl (grind (arith, up, differ))
-        | inl same ↦ inr (same, (let w : lst k ≤ lst l = least_at k l lt hl same in
-            elim (cases_eq (lst k) (lst l)) [
-              | inr differ ↦ grind (arith, w, differ)
-              | inl one ↦ absurd (let e = level-one k l (lst k) hk hl same (lst_leaf k hk) (lst_below k hk) (subst (λ (x : ℕ). IsAbove t (node_at l) x) (sym one) (lst_below l hl)) in omega (arith, e, lt))
-            ]))
+        | inl same ↦ inr (
+          same,
+          (let w : lst k ≤ lst l = least_at k l lt hl same in
+              elim (cases_eq (lst k) (lst l)) [
+                | inr differ ↦ grind (arith, w, differ)
+                | inl one ↦ absurd (let e = level-one k l (lst k) hk hl same (lst_leaf k hk) (lst_below k hk) (subst (λ (x : ℕ). IsAbove t (node_at l) x) (sym one) (lst_below l hl)) in omega (arith, e, lt))
+              ]),
+        )
       ]
     where
       least_at : (k l : ℕ) → k < l → l < length list → lvl k ≡ lvl l → lst k ≤ lst l

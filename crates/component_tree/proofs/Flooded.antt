@@ -61,7 +61,7 @@ pub flooded-tree : (f : ℕ → ℕ) (t : ParentTree) (s : EdgeList) (levels : L
 flooded-tree f t s levels forest e same leaf made =
     subst (λ (u : ParentTree). IsFlood u f s levels) (sym same)
     (flooded f t.leaves s levels (subst IsForest same forest) e.apart e.within e.by_weight e.weights leaf
-      (subst (λ (u : ParentTree). (i : ℕ) → t.leaves ≤ i → i < length u.parents → get_or levels i 0 ≡ altitude u i) same made))
+    (subst (λ (u : ParentTree). (i : ℕ) → t.leaves ≤ i → i < length u.parents → get_or levels i 0 ≡ altitude u i) same made))
 
 -- altitudes are weights
 pub low-altitudes : (f : ℕ → ℕ) (n : ℕ) (s : EdgeList) → AreFloodEdges f n s → ((x : ℕ) → f x ≤ 4294967295) → (i : ℕ) → altitude (tree_of n s) i ≤ 4294967295

@@ -180,15 +180,20 @@ node_of-found t f s levels h k x hx low =
     let few : t.leaves ≤ length t.parents = h.few in
     let up = h.tree.one_above k x hx in
     let over : IsAbove t up.0 x = up.1.1 x hx ([], refl) in
-    let hj : up.0 < length t.parents = above-within t h.climbs up.0 x (omega arith) over in
-    (up.0, (hj, record {
-      above = over;
-      low = elim (cases_lt up.0 t.leaves) [
-        | inl leaf ↦ (let e : up.0 ≡ x = alone t f s levels h up.0 x leaf (omega arith) over in let v : f up.0 ≡ f x = ap f e in omega (arith, h.leaf up.0 leaf, v, low))
-        | inr inner ↦ (let m = h.made up.0 inner hj in let a : altitude t up.0 ≤ k = up.1.0 in omega (arith, m, a))
-      ];
-      joined = up.1.1;
-    }))
+    let hj : up.0 < length t.parents = above-within t h.climbs up.0 x (omega arith) over in (
+      up.0,
+      (
+        hj,
+        record {
+          above = over;
+          low = elim (cases_lt up.0 t.leaves) [
+            | inl leaf ↦ (let e : up.0 ≡ x = alone t f s levels h up.0 x leaf (omega arith) over in let v : f up.0 ≡ f x = ap f e in omega (arith, h.leaf up.0 leaf, v, low))
+            | inr inner ↦ (let m = h.made up.0 inner hj in let a : altitude t up.0 ≤ k = up.1.0 in omega (arith, m, a))
+          ];
+          joined = up.1.1;
+        },
+      ),
+    )
 
 pub below-node_of : (t : ParentTree) (f : ℕ → ℕ) (s : EdgeList) (levels : List ℕ) → IsFlood t f s levels → (k x j y : ℕ) → j < length t.parents → level levels j ≤ k → x < t.leaves → y < t.leaves →
     IsAbove t j x → IsAbove t j y → Joined (at_most s k) x y

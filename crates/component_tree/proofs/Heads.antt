@@ -188,12 +188,12 @@ module _ (f : ℕ → ℕ) (n : ℕ) (s : EdgeList) where
   row-order p t a (suc m) =
       elim (cases_Bool (p a)) [
         | inl on ↦ rw on (
-            λ b i. (let r = row-level t (filter p (range_with_len (a + 1) m)) b i in
-                let k = IsIn-range (a + 1) m b.vertex (IsIn-kept p b.vertex (range_with_len (a + 1) m) r.1).1 in
-                let low : a + 1 ≤ b.vertex = k.low in
-                inr (sym r.0, omega arith)),
-            row-order p t (a + 1) m,
-          )
+          λ b i. (let r = row-level t (filter p (range_with_len (a + 1) m)) b i in
+              let k = IsIn-range (a + 1) m b.vertex (IsIn-kept p b.vertex (range_with_len (a + 1) m) r.1).1 in
+              let low : a + 1 ≤ b.vertex = k.low in
+              inr (sym r.0, omega arith)),
+          row-order p t (a + 1) m,
+        )
         | inr off ↦ rw off (row-order p t (a + 1) m)
       ]
 
@@ -202,12 +202,12 @@ module _ (f : ℕ → ℕ) (n : ℕ) (s : EdgeList) where
   levels-order a (suc m) =
       order-append (heads_at f n s a) (flat_map (heads_at f n s) (range_with_len (a + 1) m)) (row-order (is_head f n s a) a 0 n) (levels-order (a + 1) m)
       (λ x y i j. (
-        let r = row-level a (filter (is_head f n s a) (range_with_len 0 n)) x i in
-        let q = IsIn-flat (heads_at f n s) (range_with_len (a + 1) m) y j in
-        let k = IsIn-range (a + 1) m q.0 q.1.0 in
-        let v = row-level q.0 (filter (is_head f n s q.0) (range_with_len 0 n)) y q.1.1 in
-        let low : a + 1 ≤ q.0 = k.low in
-        inl (omega (arith, r.0, v.0))))
+      let r = row-level a (filter (is_head f n s a) (range_with_len 0 n)) x i in
+      let q = IsIn-flat (heads_at f n s) (range_with_len (a + 1) m) y j in
+      let k = IsIn-range (a + 1) m q.0 q.1.0 in
+      let v = row-level q.0 (filter (is_head f n s q.0) (range_with_len 0 n)) y q.1.1 in
+      let low : a + 1 ≤ q.0 = k.low in
+      inl (omega (arith, r.0, v.0))))
 
   -- the nodes stand in order
   pub heads-order : InOrder (heads f n s)
@@ -236,7 +236,7 @@ module _ (f : ℕ → ℕ) (n : ℕ) (s : EdgeList) where
       flat-in (heads_at f n s) (range_with_len 0 (suc (greatest_value f n))) t (record { level = t; vertex = x })
       (IsIn-from 0 (suc (greatest_value f n)) t (omega arith) (omega (arith, low)))
       (map-in {Y = Head} (λ y. record { level = t; vertex = y }) (filter (is_head f n s t) (range_with_len 0 n)) x
-        (IsIn-filter (is_head f n s t) x (range_with_len 0 n) is (IsIn-from 0 n x (omega arith) (omega arith))))
+      (IsIn-filter (is_head f n s t) x (range_with_len 0 n) is (IsIn-from 0 n x (omega arith) (omega arith))))
     where
       low : t ≤ greatest_value f n
       low =

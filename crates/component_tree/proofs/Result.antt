@@ -102,11 +102,11 @@ module _ (side : Side) (values : List ℕ) (t : ParentTree) (s : EdgeList) (leve
   min-turned fits parents out up is =
       ap (λ (p : List ℕ). lists t.leaves p out) up
       ∙ ap (lists t.leaves (map (leaf_parent t places) (range_with_len 0 t.leaves) ++ map (component_parent t places) list))
-        (is
-        ∙ ap (λ (x : List ℕ). x ++ map (λ (c : Component). turned side c.level) list)
-          (map-agree (value_at values) (λ x. turned side (f x)) 0 t.leaves (λ x a b. sym (turned-twice side (value_at values x) (fits x))) ∙ sym (map-map (turned side) f (range_with_len 0 t.leaves)))
-        ∙ ap (λ (x : List ℕ). map (turned side) (map f (range_with_len 0 t.leaves)) ++ x) (sym (map-map (turned side) (λ (c : Component). c.level) list))
-        ∙ sym (map-append (turned side) (map f (range_with_len 0 t.leaves)) (map (λ (c : Component). c.level) list)))
+      (is
+      ∙ ap (λ (x : List ℕ). x ++ map (λ (c : Component). turned side c.level) list)
+      (map-agree (value_at values) (λ x. turned side (f x)) 0 t.leaves (λ x a b. sym (turned-twice side (value_at values x) (fits x))) ∙ sym (map-map (turned side) f (range_with_len 0 t.leaves)))
+      ∙ ap (λ (x : List ℕ). map (turned side) (map f (range_with_len 0 t.leaves)) ++ x) (sym (map-map (turned side) (λ (c : Component). c.level) list))
+      ∙ sym (map-append (turned side) (map f (range_with_len 0 t.leaves)) (map (λ (c : Component). c.level) list)))
 
 -- the ends of the ranked edges are vertices where each edge joins two
 pub ranked-within : (g : WeightedGraph) → All (JoinsTwo g.n) g.edges → AreWithin g.n (ranked g)
@@ -137,8 +137,8 @@ pub turned-components : (side : Side) (values : List ℕ) (w g : WeightedGraph) 
 turned-components side values w g tree e fits t =
     subst (IsComponentTree side (value_at values) g.n (ranked g)) (sym t.turned)
     (sided-tree side values g.n (ranked g) t.min fits
-      (ends-tree (λ x. turned side (value_at values x)) g.n (ranked (weighed_graph side values g)) (ranked g) t.min (weighed-ends side values g) (ends-weighed side values g)
-        (subst (λ (u : WeightedGraph). IsComponentTree Min (λ x. turned side (value_at values x)) u.n (ranked u) t.min) e t.is)))
+    (ends-tree (λ x. turned side (value_at values x)) g.n (ranked (weighed_graph side values g)) (ranked g) t.min (weighed-ends side values g) (ends-weighed side values g)
+    (subst (λ (u : WeightedGraph). IsComponentTree Min (λ x. turned side (value_at values x)) u.n (ranked u) t.min) e t.is)))
 
 pub turned-function : (side : Side) (values : List ℕ) (w g : WeightedGraph) (tree : ComponentLists) → w ≡ weighed_graph side values g → ((x : ℕ) → value_at values x ≤ 4294967295) → All (JoinsTwo w.n) w.edges →
     IsTurnedTree side values w.n (ranked w) tree → tree ≡ component_tree_of side values g

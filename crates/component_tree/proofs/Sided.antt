@@ -57,7 +57,7 @@ one-tree Min values g tree w fits c = only-one (value_at values) g.n (ranked g) 
 one-tree Max values g tree w fits c =
     sym (max-back tree low)
     ∙ ap (turned_back Max) (only-one (λ x. 4294967295 - value_at values x) g.n (ranked g) w (turned_back Max tree)
-      (turned-tree Max Min (value_at values) (λ x. 4294967295 - value_at values x) g.n (ranked g) tree (turned_back Max tree) (max-to_min (value_at values) tree fits) c))
+    (turned-tree Max Min (value_at values) (λ x. 4294967295 - value_at values x) g.n (ranked g) tree (turned_back Max tree) (max-to_min (value_at values) tree fits) c))
   where
     low : (i : ℕ) → i < length tree.levels → level_of tree i ≤ 4294967295
     low i lt = elim (cases_lt i g.n) [

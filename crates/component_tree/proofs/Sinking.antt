@@ -61,7 +61,7 @@ module _ (f : ℕ → ℕ) (n : ℕ) (s : EdgeList) (w : AreWithin n s) where
   sunk k l x le low y =
       same_test _ _
       (λ r. (let v = Joined-joined (inside Min f s k) x y r in
-          joined-walk (inside Min f s l) x v.0 y (sink k l x x low ((IsSame-joined (inside Min f s k)).self x) v.0 y v.1)))
+      joined-walk (inside Min f s l) x v.0 y (sink k l x x low ((IsSame-joined (inside Min f s k)).self x) v.0 y v.1)))
       (λ r. reach-higher l k x y le r)
 
   -- a vertex that a level joins to one that is in is in

@@ -83,14 +83,16 @@ module _ (t : ParentTree) (levels leasts : List ℕ) where
 
   there : (a : ℕ) (d : Component) → a < length unsorted → (i : ℕ) × IsThere a i d
   there a d lt =
-      let q = passing-index is (length t.parents) a (let e : length unsorted ≡ length (passing is (length t.parents)) = length-map (passing is (length t.parents)) of in omega (arith, e, lt)) in
-      (q.0, record {
-        low = q.1.low;
-        passes = q.1.passes;
-        place = q.1.place;
-        value = get_or_from_slice_get unsorted a (of q.0) d (slice_get-mapped of (passing is (length t.parents)) a q.0
-            (subst (λ (k : ℕ). slice_get (passing is (length t.parents)) k ≡ Some q.0) q.1.place (passing-at is (length t.parents) q.0 q.1.low q.1.passes)));
-      })
+      let q = passing-index is (length t.parents) a (let e : length unsorted ≡ length (passing is (length t.parents)) = length-map (passing is (length t.parents)) of in omega (arith, e, lt)) in (
+        q.0,
+        record {
+          low = q.1.low;
+          passes = q.1.passes;
+          place = q.1.place;
+          value = get_or_from_slice_get unsorted a (of q.0) d (slice_get-mapped of (passing is (length t.parents)) a q.0
+              (subst (λ (k : ℕ). slice_get (passing is (length t.parents)) k ≡ Some q.0) q.1.place (passing-at is (length t.parents) q.0 q.1.low q.1.passes)));
+        },
+      )
 
   unsorted-long : length unsorted ≡ count_below is (length t.parents)
   unsorted-long = length-map (passing is (length t.parents)) of ∙ length-passing is (length t.parents)
@@ -101,9 +103,9 @@ module _ (t : ParentTree) (levels leasts : List ℕ) where
       let p = there a d (omega arith) in
       let q = there b d high in
       apart-eqb (get_or unsorted a d).node (get_or unsorted b d).node (λ same.
-          let e : p.0 ≡ q.0 = sym (ap (λ (c : Component). c.node) p.1.value) ∙ same ∙ ap (λ (c : Component). c.node) q.1.value in
-          let k = ap (count_below is) e in
-          omega (arith, k, p.1.place, q.1.place, low)))
+      let e : p.0 ≡ q.0 = sym (ap (λ (c : Component). c.node) p.1.value) ∙ same ∙ ap (λ (c : Component). c.node) q.1.value in
+      let k = ap (count_below is) e in
+      omega (arith, k, p.1.place, q.1.place, low)))
 
   -- a component, by the node from which it came
   record Came (c : Component) (i : ℕ) : Type 0 where
@@ -119,12 +121,12 @@ module _ (t : ParentTree) (levels leasts : List ℕ) where
     each = λ k h. (at k h).1.value ∙ ap of (sym (at-node k h));
     is = λ k h. ap is (at-node k h) ∙ (at k h).1.passes;
     all = λ i h passes. (
-      let e : slice_get unsorted (count_below is i) ≡ Some (of i) = slice_get-mapped of (passing is (length t.parents)) (count_below is i) i (passing-at is (length t.parents) i h passes) in
-      let c = Contains-permutation unsorted list (of i) o (count_below is i, within i h passes, get_or_from_slice_get unsorted (count_below is i) (of i) (of i) e) in
-      (c.0, (c.1, ap (λ (x : Component). x.node) (other-default list c.0 (of i) (record { level = 0; least = 0; node = 0 }) (of i) c.1 c.2))));
+        let e : slice_get unsorted (count_below is i) ≡ Some (of i) = slice_get-mapped of (passing is (length t.parents)) (count_below is i) i (passing-at is (length t.parents) i h passes) in
+        let c = Contains-permutation unsorted list (of i) o (count_below is i, within i h passes, get_or_from_slice_get unsorted (count_below is i) (of i) (of i) e) in
+        (c.0, (c.1, ap (λ (x : Component). x.node) (other-default list c.0 (of i) (record { level = 0; least = 0; node = 0 }) (of i) c.1 c.2))));
     once = λ k l lt h. eqb-apart (component_at list k).node (component_at list l).node
         (apart_from_distinct (λ (x y : Component). x.node == y.node) list k l (record { level = 0; least = 0; node = 0 })
-          (IsDistinct-IsPermutation (λ (x y : Component). x.node == y.node) (λ x y. eqb-flips x.node y.node) unsorted list o distinct) lt h);
+        (IsDistinct-IsPermutation (λ (x y : Component). x.node == y.node) (λ x y. eqb-flips x.node y.node) unsorted list o distinct) lt h);
     in_order = λ k l lt h. no-later (component_at list k) (component_at list l) (far list sorted k l (record { level = 0; least = 0; node = 0 }) (omega arith) h);
   }
     where

@@ -107,7 +107,7 @@ module _ (a b : Side) (v w : ℕ → ℕ) (n : ℕ) (s : EdgeList) (t u : Compon
       order_in i j di dj (inl before) = inl (
           subst (λ (k : ℕ). ComesBefore b k (level_of u j)) (sym (level-same i di.within))
           (subst (λ (k : ℕ). ComesBefore b (4294967295 - level_of t i) k) (sym (level-same j dj.within))
-            (h.before (level_of t i) (level_of t j) (level-fits i di) (level-fits j dj) before)))
+          (h.before (level_of t i) (level_of t j) (level-fits i di) (level-fits j dj) before)))
       order_in i j di dj (inr even) = inr (level-same i di.within ∙ ap (λ (k : ℕ). 4294967295 - k) even.0 ∙ sym (level-same j dj.within), even.1)
 
 -- the tests of the two sides

@@ -337,10 +337,10 @@ module _ (f : ℕ → ℕ) (n : ℕ) (s : EdgeList) (w : AreWithin n s) (tree : 
   only-one =
       ap (λ (l : ℕ). lists l tree.parents tree.levels) c.leaves
       ∙ ap (λ (l : List ℕ). lists n l tree.levels) (two-parts tree.parents n count (λ x. n + leaf_place f n s x) (λ k. n + parent_place f n s k) (sym counted) leaf-place node-place
-        ∙ ap (λ (m : ℕ). map (λ x. n + leaf_place f n s x) (range_with_len 0 n) ++ map (λ k. n + parent_place f n s k) (range_with_len 0 m)) (sym heads-long))
+      ∙ ap (λ (m : ℕ). map (λ x. n + leaf_place f n s x) (range_with_len 0 n) ++ map (λ k. n + parent_place f n s k) (range_with_len 0 m)) (sym heads-long))
       ∙ ap (λ (l : List ℕ). lists n (map (λ x. n + leaf_place f n s x) (range_with_len 0 n) ++ map (λ k. n + parent_place f n s k) (range_with_len 0 (length (heads f n s)))) l)
-        (two-parts tree.levels n count f lv (c.one_level_each ∙ sym counted) c.leaf_level (λ k h. refl)
-        ∙ ap (λ (l : List ℕ). map f (range_with_len 0 n) ++ l) levels-are)
+      (two-parts tree.levels n count f lv (c.one_level_each ∙ sym counted) c.leaf_level (λ k h. refl)
+      ∙ ap (λ (l : List ℕ). map f (range_with_len 0 n) ++ l) levels-are)
     where
       levels-are : map lv (range_with_len 0 count) ≡ map (λ (h : Head). h.level) (heads f n s)
       levels-are = sym (map-values key (λ (h : Head). h.level) count 0) ∙ ap (map (λ (h : Head). h.level)) keys_are

@@ -95,11 +95,7 @@ fn tree_of_nodes(
     push_parents(tree, &places, &list, &mut parents)?;
     let mut turned_levels = leaf_levels(alloc, values, tree, &list)?;
     push_levels(side, &list, &mut turned_levels)?;
-    Ok(ComponentTree::from_lists(
-        tree.leaves(),
-        parents,
-        turned_levels,
-    ))
+    Ok(ComponentTree::from_lists(tree.leaves(), parents, turned_levels))
 }
 
 // The parents of the leaves.

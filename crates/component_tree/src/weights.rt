@@ -42,12 +42,7 @@ fn weight_between(side: Side, a: u32, b: u32) -> u32
 }
 
 // The edges with the weights of their ends' values.
-fn edges(
-    alloc: Global,
-    graph: &Graph,
-    values: &Values,
-    side: Side,
-) -> Result<Vec<Edge>, AllocError>
+fn edges(alloc: Global, graph: &Graph, values: &Values, side: Side) -> Result<Vec<Edge>, AllocError>
     requires { length values.now ≡ graph.now.n }
     ensures edges { IfOk result (λ edges. edges.items ≡ map (weighed_edge side values.now) graph.now.edges) }
     ensures ends { IfOk result (λ edges. All (JoinsTwo graph.now.n) edges.items) }

@@ -17,7 +17,7 @@ tree_of_nodes-requires-clause-low c = λ i.
     let fits = value-fits v c.read.ensures.values.each in
     subst (λ (u : ParentTree). altitude u i ≤ 4294967295) (sym c.requires.tree)
     (low-altitudes (λ x. turned c.args.side (value_at v x)) w.n (ranked w) (weighed-flood c.args.side v w c.requires.weighed.0 c.requires.weighed.1 fits c.read.ensures.ends)
-      (λ x. turned-fits c.args.side (value_at v x) (fits x)) i)
+    (λ x. turned-fits c.args.side (value_at v x) (fits x)) i)
 
 pub tree_of_nodes-requires-clause-leaves : goal.tree_of_nodes-requires-clause-leaves
 tree_of_nodes-requires-clause-leaves c =

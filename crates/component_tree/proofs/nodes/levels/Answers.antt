@@ -27,6 +27,6 @@ returns-clause-len c =
     let whole : c.loop-x.x ≡ t.leaves = omega (arith, c.leaves-x-end.ensures.value) in
     let low : t.leaves ≤ length t.parents = omega (arith, c.leaves-x-end.ensures.value, c.leaves-x-end.ensures.within) in
     ap (λ (l : List ℕ). length l) (split-values (λ x. turned c.args.side (value_at c.args.values.now x)) (altitude t) t.leaves (length t.parents) c.loop-x.levels.items c.push_altitudes.new.levels.items low
-      (c.loop-x.invariant ∙ ap (λ (n : ℕ). map (λ x. turned c.args.side (value_at c.args.values.now x)) (range_with_len 0 n)) whole)
-      c.in_ok-push_altitudes.ensures)
+    (c.loop-x.invariant ∙ ap (λ (n : ℕ). map (λ x. turned c.args.side (value_at c.args.values.now x)) (range_with_len 0 n)) whole)
+    c.in_ok-push_altitudes.ensures)
     ∙ length-map-range_with_len (level_in c.args.side c.args.values.now t) 0 (length t.parents)

@@ -23,7 +23,7 @@ loop-i-preserved-then-not-is_component c =
     let low : c.loop-i.i - 1 < length t.parents = omega (arith, c.loop-i.auto.i, c.nodes-i.ensures.value) in
     subst (λ (p : ℕ). AreSentFrom t c.args.levels.now c.args.list.now (c.loop-i.i - 1) (set c.loop-i.places (c.loop-i.i - 1) (get_or c.loop-i.places p 0))) (sym c.parent.ensures.value)
     (sent-down t c.args.levels.now c.args.list.now (c.loop-i.i - 1) c.loop-i.places (forest-climbs t c.nodes-i.ensures.forest) low (sym c.is_component.ensures ∙ c.if-not-is_component.true) c.requires.list.1.is
-      (subst (λ (n : ℕ). AreSentFrom t c.args.levels.now c.args.list.now n c.loop-i.places) e c.loop-i.invariant))
+    (subst (λ (n : ℕ). AreSentFrom t c.args.levels.now c.args.list.now n c.loop-i.places) e c.loop-i.invariant))
 
 pub returns : goal.returns
 returns c =

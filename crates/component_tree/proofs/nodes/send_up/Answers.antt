@@ -16,7 +16,7 @@ loop-i-preserved c =
     let hi : i < length t.parents = omega (arith, c.loop-i-test.true, c.nodes-i-end.ensures.value) in
     subst (λ (m : ℕ). AreLeastsTo t (i + 1) (set xs c.parent-parent.result m)) (sym c.min.ensures)
     (subst (λ (p : ℕ). AreLeastsTo t (i + 1) (set xs p (min (get_or xs p 0) (get_or xs i 0)))) (sym c.parent-parent.ensures.value)
-      (leasts-next t (forest-climbs t f) (forest-leaves t f) c.requires.leaves i xs hi c.loop-i.invariant))
+    (leasts-next t (forest-climbs t f) (forest-leaves t f) c.requires.leaves i xs hi c.loop-i.invariant))
 
 pub returns : goal.returns
 returns c =

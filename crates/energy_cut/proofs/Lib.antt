@@ -1,2 +1,5 @@
 pub mod Totals
 pub mod Lists
+pub mod Covers
+pub mod Balance
+pub mod Best

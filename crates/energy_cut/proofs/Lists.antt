@@ -158,3 +158,18 @@ rises-filter a (suc n) (x ∷ xs) r few = elim (cases_eq x a) [
 -- a rising list of numbers below n is what it keeps of them
 pub rising-passing : (n : ℕ) (xs : List ℕ) → IsStrictlyIncreasing xs → ((x : ℕ) → IsIn x xs → x < n) → xs ≡ passing (has xs) n
 rising-passing n xs up few = rises-filter 0 n xs (rises-from 0 xs up (λ x i. omega arith)) (λ x i. omega (arith, few x i))
+
+-- the numbers below n that pass rise
+pub passing-rises : (p : ℕ → Bool) (n : ℕ) → IsStrictlyIncreasing (passing p n)
+passing-rises p n = rises-to 0 (passing p n) (kept 0 n)
+  where
+    more : (low low' : ℕ) (xs : List ℕ) → low ≤ low' → RisesFrom low' xs → RisesFrom low xs
+    more low low' [] h r = tt
+    more low low' (x ∷ xs) h r = (omega (arith, h, r.0), r.1)
+
+    kept : (a m : ℕ) → RisesFrom a (filter p (range_with_len a m))
+    kept a zero = tt
+    kept a (suc m) = elim (cases_Bool (p a)) [
+      | inl h ↦ rw h (omega arith, kept (a + 1) m)
+      | inr h ↦ rw h (more a (a + 1) (filter p (range_with_len (a + 1) m)) (omega arith) (kept (a + 1) m))
+    ]

@@ -3,3 +3,5 @@ pub mod Lists
 pub mod Covers
 pub mod Balance
 pub mod Best
+pub mod Listed
+pub mod Gathering

@@ -57,7 +57,7 @@ least-below t e b a i h inner =
     omega arith
 
 -- a node that doesn't keep its own is an inner one, and has its children's
-leaf-keeps : (t : ParentTree) (e b : List ℕ) → AreLeast t e b → (i : ℕ) → i < length t.parents → i < t.leaves → keeps e b i ≡ true
+pub leaf-keeps : (t : ParentTree) (e b : List ℕ) → AreLeast t e b → (i : ℕ) → i < length t.parents → i < t.leaves → keeps e b i ≡ true
 leaf-keeps t e b a i h leaf = eq-eqb (value b i) (value e i) (a.each i h ∙ cond-true (nat_lt i t.leaves) _ _ (lt-ltb i t.leaves leaf))
 
 gives-up : (t : ParentTree) (e b : List ℕ) → AreLeast t e b → (i : ℕ) → i < length t.parents → keeps e b i ≡ false → value b i ≡ below_sum t (value b) i

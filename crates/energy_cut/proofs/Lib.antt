@@ -5,3 +5,7 @@ pub mod Balance
 pub mod Best
 pub mod Listed
 pub mod Gathering
+pub mod Sending
+pub mod Tops
+pub mod Chosen
+pub mod Sums

@@ -8,6 +8,9 @@ use hg_base::{Labels, OutOfMemory, push_headed_line};
 use itoa::Buffer;
 use std::alloc::{AllocError, Global};
 
+// The room for a vertex's line: a letter and two numbers of at most 7 digits.
+const VERTEX_LINE: usize = 18;
+
 /// The report of a cut and of the energies of which it was made: `energy N REGIONS SUM`, then for each node of the cut
 /// `node NODE ENERGY`, then for each vertex `v VERTEX LABEL`.
 pub fn write_energy(
@@ -31,7 +34,7 @@ fn written(alloc: Global, cut: &EnergyCut, energies: &[u128]) -> Result<Vec<u8>,
         u128::from(labels.count()),
         cut.sum(),
     ];
-    let mut text = Vec::new(alloc);
+    let mut text = Vec::with_capacity(alloc, VERTEX_LINE * labels.len() as usize)?;
     push_wide_line(&mut text, "energy", &sizes)?;
     push_nodes(&mut text, cut.nodes(), energies)?;
     push_vertices(&mut text, labels)?;
@@ -65,6 +68,13 @@ fn push_wide_line(text: &mut Vec<u8>, word: &str, numbers: &[u128]) -> Result<()
 {
     text.extend_from_slice(word.as_bytes())?;
     text.push(b' ')?;
+    push_numbers(text, numbers)
+}
+
+// Appends the numbers of a line, one space between, one line feed at the end.
+fn push_numbers(text: &mut Vec<u8>, numbers: &[u128]) -> Result<(), AllocError>
+    ensures { OnOk result (text.new.items ≡ text.old.items ++ line numbers.now) }
+{
     for (place, number) in numbers.iter().enumerate() {
         if 0 < place {
             text.push(b' ')?;

@@ -142,7 +142,7 @@ next_inner t c e i v b h g inner is = record {
     up = let le : i ≤ parent t i = c.rises i h in grind (arith, le, inner)
 
 -- no node's least energy is above its own
-least_at-own : (t : ParentTree) (e b : List ℕ) (i : ℕ) → least_at t e b i ≤ value e i
+pub least_at-own : (t : ParentTree) (e b : List ℕ) (i : ℕ) → least_at t e b i ≤ value e i
 least_at-own t e b i = own (nat_lt i t.leaves)
   where
     own : (leaf : Bool) → cond leaf (value e i) (min (value e i) (children_sum t b i)) ≤ value e i

@@ -9,3 +9,4 @@ pub mod Sending
 pub mod Tops
 pub mod Chosen
 pub mod Sums
+pub mod Made

@@ -154,8 +154,8 @@ balance t c p f fits (suc i) h =
 -- in the end the roots wait
 pub waits-roots : (t : ParentTree) → IsClimbing t → (p : ℕ → Bool) (f : ℕ → ℕ) → total (waits t p (length t.parents)) f (length t.parents) ≡ total (is_root t) f (length t.parents)
 waits-roots t c p f = total-agree (waits t p (length t.parents)) (is_root t) f f (length t.parents)
-  (λ j h. elim (cases_eq (parent t j) j) [
-    | inl root ↦ and_from _ _ (free-root t p j root) (or_left _ _ (eq-eqb (parent t j) j root)) ∙ sym (eq-eqb (parent t j) j root)
-    | inr inner ↦ not_waiting t p (length t.parents) j inner (c.within j h) ∙ sym (ne_eqb (parent t j) j inner)
-  ])
-  (λ j h e. refl)
+    (λ j h. elim (cases_eq (parent t j) j) [
+      | inl root ↦ and_from _ _ (free-root t p j root) (or_left _ _ (eq-eqb (parent t j) j root)) ∙ sym (eq-eqb (parent t j) j root)
+      | inr inner ↦ not_waiting t p (length t.parents) j inner (c.within j h) ∙ sym (ne_eqb (parent t j) j inner)
+    ])
+    (λ j h e. refl)

@@ -161,7 +161,7 @@ best-above t e b f k x h kept low a =
       found.0,
       (
         passing-from (is_best t e b) (length t.parents) found.0 (above-within t up found.0 k h found.1.0)
-        (and_from _ _ (and_from _ _ found.1.1.1 found.1.1.0) (has_leaf-from t f found.0 x low over)),
+            (and_from _ _ (and_from _ _ found.1.1.1 found.1.1.0) (has_leaf-from t f found.0 x low over)),
         found.1.0,
       ),
     )

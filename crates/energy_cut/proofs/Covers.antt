@@ -56,21 +56,21 @@ free-root t p j root = free-from t p j (λ k. k.other (sym k.above.1 ∙ ancesto
 -- another node is free where its parent is free and doesn't pass
 pub free-next : (t : ParentTree) → IsClimbing t → (p : ℕ → Bool) (j : ℕ) → j < length t.parents → (parent t j ≡ j → ⊥) → free t p j ≡ (free t p (parent t j) && not (p (parent t j)))
 free-next t c p j h inner = same_test _ _
-  (λ e. and_from _ _
-      (free-from t p (parent t j) (λ k. free-to t c p j h e (record {
-        node = k.node;
-        above = above-on t k.node (parent t j) j k.above (1, refl);
-        passes = k.passes;
-        other = λ same. (let low : parent t j ≤ k.node = above-rises t c k.node (parent t j) (c.within j h) k.above in absurd (omega arith));
-      })))
-      (ap not (false_from_ne_true (p (parent t j)) (λ passes. free-to t c p j h e (record { node = parent t j; above = (1, refl); passes = passes; other = inner })))))
-  (λ e. let parts = and_parts _ _ e in free-from t p j (λ k. elim (above-next t k.node j k.above) [
-    | inl same ↦ k.other same
-    | inr up ↦ elim (cases_eq k.node (parent t j)) [
-      | inl here ↦ both_ways (not (p (parent t j))) (ap not (ap p (sym here) ∙ k.passes)) parts.1
-      | inr higher ↦ free-to t c p (parent t j) (c.within j h) parts.0 (record { node = k.node; above = up; passes = k.passes; other = higher })
-    ]
-  ]))
+    (λ e. and_from _ _
+    (free-from t p (parent t j) (λ k. free-to t c p j h e (record {
+      node = k.node;
+      above = above-on t k.node (parent t j) j k.above (1, refl);
+      passes = k.passes;
+      other = λ same. (let low : parent t j ≤ k.node = above-rises t c k.node (parent t j) (c.within j h) k.above in absurd (omega arith));
+    })))
+    (ap not (false_from_ne_true (p (parent t j)) (λ passes. free-to t c p j h e (record { node = parent t j; above = (1, refl); passes = passes; other = inner })))))
+    (λ e. let parts = and_parts _ _ e in free-from t p j (λ k. elim (above-next t k.node j k.above) [
+      | inl same ↦ k.other same
+      | inr up ↦ elim (cases_eq k.node (parent t j)) [
+        | inl here ↦ both_ways (not (p (parent t j))) (ap not (ap p (sym here) ∙ k.passes)) parts.1
+        | inr higher ↦ free-to t c p (parent t j) (c.within j h) parts.0 (record { node = k.node; above = up; passes = k.passes; other = higher })
+      ]
+    ]))
   where
     up : j < parent t j
     up = let le : j ≤ parent t j = c.rises j h in grind (arith, le, inner)

@@ -10,3 +10,4 @@ pub mod Tops
 pub mod Chosen
 pub mod Sums
 pub mod Made
+pub mod TestForest

@@ -147,8 +147,8 @@ counts-once p low (y ∷ ys) r o =
 -- the test of a cut says what it is to say
 is_cut-from : (t : ParentTree) → IsForest t → (c : List ℕ) → IsCut t c → is_cut t c ≡ true
 is_cut-from t f c k = and_from _ _
-  (all-from (λ i. list_any (is_above t i) (leaf_numbers t)) c (λ i m. let x = k.in_paths i m in has_leaf-from t f i x.0 x.1.0 x.1.1))
-  (all-from (λ x. count_by (λ i. is_above t i x) c == 1) (leaf_numbers t) (λ x m. once x (let r = range-to 0 t.leaves x m in omega (arith, r.1))))
+    (all-from (λ i. list_any (is_above t i) (leaf_numbers t)) c (λ i m. let x = k.in_paths i m in has_leaf-from t f i x.0 x.1.0 x.1.1))
+    (all-from (λ x. count_by (λ i. is_above t i x) c == 1) (leaf_numbers t) (λ x m. once x (let r = range-to 0 t.leaves x m in omega (arith, r.1))))
   where
     once : (x : ℕ) → x < t.leaves → (count_by (λ i. is_above t i x) c == 1) ≡ true
     once x h =
@@ -192,7 +192,7 @@ cuts-to t f c i =
 -- the test of a coarser cut
 is_coarser-from : (t : ParentTree) → IsForest t → (c d : List ℕ) → IsCut t d → IsCoarser t c d → is_coarser t c d ≡ true
 is_coarser-from t f c d k over = all-from (λ j. list_any (λ i. is_above t i j) c) d (λ j m. let i = over j m in
-  any-from (λ i'. is_above t i' j) i.0 c i.1.0 (is_above-from t (forest-climbs t f) i.0 j (cut-within t f d k j m) i.1.1))
+    any-from (λ i'. is_above t i' j) i.0 c i.1.0 (is_above-from t (forest-climbs t f) i.0 j (cut-within t f d k j m) i.1.1))
 
 is_coarser-to : (t : ParentTree) (c d : List ℕ) → is_coarser t c d ≡ true → IsCoarser t c d
 is_coarser-to t c d h j m =

@@ -109,10 +109,10 @@ key-to t e tops keys k i h =
 -- the keys are the nodes of the least cut
 pub chosen-nodes : (t : ParentTree) (e : List ℕ) (tops keys : List (Option ℕ)) → (k : AreLeafKeys t e tops keys) → filter (is_key keys) (range_with_len 0 (length t.parents)) ≡ cut_nodes t e tops k.tops_are
 chosen-nodes t e tops keys k = filter-agree (is_key keys) (is_best t e k.tops_are.least) 0 (length t.parents) (λ i low high. same_test _ _
-  (λ h. (let x = key-to t e tops keys k i h in
-  subst (λ (j : ℕ). is_best t e k.tops_are.least j ≡ true) x.1.1 (passing-to (is_best t e k.tops_are.least) (length t.parents) (top_of_leaf tops x.0) (top-member t e tops keys k x.0 x.1.0)).0))
-  (λ h. (let x = has_leaf-to t i (and_parts _ _ h).1 in
-  key-from t e tops keys k x.0 i x.1.0 (top-only t e tops keys k x.0 i x.1.0 (passing-from (is_best t e k.tops_are.least) (length t.parents) i (omega arith) h) x.1.1))))
+    (λ h. (let x = key-to t e tops keys k i h in
+    subst (λ (j : ℕ). is_best t e k.tops_are.least j ≡ true) x.1.1 (passing-to (is_best t e k.tops_are.least) (length t.parents) (top_of_leaf tops x.0) (top-member t e tops keys k x.0 x.1.0)).0))
+    (λ h. (let x = has_leaf-to t i (and_parts _ _ h).1 in
+    key-from t e tops keys k x.0 i x.1.0 (top-only t e tops keys k x.0 i x.1.0 (passing-from (is_best t e k.tops_are.least) (length t.parents) i (omega arith) h) x.1.1))))
 
 -- leaves are in one region exactly where they have one key
 pub region-keys : (t : ParentTree) (e : List ℕ) (tops keys : List (Option ℕ)) → (k : AreLeafKeys t e tops keys) → (x y : ℕ) → x < t.leaves → y < t.leaves →

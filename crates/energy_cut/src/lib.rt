@@ -9,5 +9,12 @@ mod report;
 
 pub use cuts::{EnergyCut, least_cut};
 pub use energies::node_energies;
-pub use laws::{cuts_are_listed, energies_fit, least_cut_is_one, nodes_have_leaves, regions_by_nodes};
+pub use laws::{
+    cuts_are_listed, energies_fit, least_cut_is_one, nodes_have_leaves, regions_by_nodes,
+};
 pub use report::write_energy;
+
+#[cfg(test)]
+mod tests;
+#[cfg(test)]
+mod worked;

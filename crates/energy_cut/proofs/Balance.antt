@@ -1,7 +1,7 @@
 -- What waits at the roots, and what the free nodes that pass cost.
-use Rattle.std.proofs.Common.{◌≡◌, ℕ, zero, suc, ◌+◌, ◌-◌, ◌<◌, ◌≤◌, Bool, true, false, inl, inr, refl, sym, ◌∙◌, subst, ap, arith, length}
-use Rattle.std.specs.Prelude.{◌⊎◌, ◌==◌, ◌&&◌, ◌||◌, not, nat_le}
-use Rattle.std.proofs.lemmas.Bool.{cases_Bool, cases_eq, cases_lt, and_parts, and_from, and_right, or_left, or_right, eq-eqb, ne_eqb, le-leb, lt-leb, false_from_ne_true, both_ways}
+use Rattle.std.proofs.Common.{◌≡◌, ℕ, zero, suc, ◌+◌, ◌-◌, ◌<◌, ◌≤◌, Bool, true, false, inl, inr, refl, sym, ◌∙◌, ap, arith, length}
+use Rattle.std.specs.Prelude.{◌==◌, ◌&&◌, ◌||◌, not, nat_le}
+use Rattle.std.proofs.lemmas.Bool.{cases_Bool, cases_eq, cases_lt, and_from, and_right, or_left, or_right, eq-eqb, ne_eqb, le-leb, lt-leb}
 use Rattle.hg_base.specs.Tree.{ParentTree, parent}
 use Rattle.hg_base.specs.Levels.{IsClimbing}
 use Rattle.partition_tree.specs.Children.{is_child}

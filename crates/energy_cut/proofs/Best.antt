@@ -1,21 +1,21 @@
 -- The nodes that keep their own energies: the highest of them are the least cut.
-use Rattle.std.proofs.Common.{◌≡◌, ℕ, zero, suc, ◌+◌, ◌-◌, ◌<◌, ◌≤◌, Bool, true, false, cond, inl, inr, refl, sym, ◌∙◌, subst, ap, arith, List, length, get_or}
-use Rattle.std.specs.Prelude.{◌⊎◌, ◌==◌, ◌&&◌, not, min, nat_lt}
-use Rattle.std.specs.List.{range_with_len, list_any, sum_by}
-use Rattle.std.proofs.lemmas.Bool.{cases_Bool, cases_eq, cases_lt, and_parts, and_from, eqb-true, eq-eqb, ne_eqb, false_from_ne_true, both_ways, cond-true, cond-false, lt-ltb, ltb-true, le-ltb}
+use Rattle.std.proofs.Common.{◌≡◌, ℕ, ◌+◌, ◌-◌, ◌<◌, ◌≤◌, Bool, true, false, inl, inr, refl, ◌∙◌, subst, ap, arith, List, length, get_or}
+use Rattle.std.specs.Prelude.{◌&&◌, not, min, nat_lt}
+use Rattle.std.specs.List.{list_any}
+use Rattle.std.proofs.lemmas.Bool.{cases_eq, cases_lt, and_parts, and_from, eqb-true, eq-eqb, false_from_ne_true, both_ways, cond-true, cond-false, lt-ltb, le-ltb}
 use Rattle.hg_base.specs.Edges.{IsIn}
-use Rattle.hg_base.specs.Tree.{ParentTree, parent, IsAbove}
-use Rattle.hg_base.specs.Levels.{IsClimbing, is_above}
+use Rattle.hg_base.specs.Tree.{ParentTree, IsAbove}
+use Rattle.hg_base.specs.Levels.{is_above}
 use Rattle.hg_base.proofs.Climbs.{above-on, above-within}
 use Rattle.hg_base.proofs.Passing.{passing}
 use Rattle.hg_base.proofs.Tops.{is_above-from, is_above-to}
 use Rattle.partition_tree.specs.Forest.{IsForest}
 use Rattle.partition_tree.specs.Children.{is_child}
 use Rattle.partition_tree.proofs.ForestClimbs.{forest-climbs, forest-leaves}
-use Rattle.energy_cut.specs.Cuts.{IsCut, IsLeastCut, HasOneAbove, cut_energy, leaf_numbers}
-use Rattle.energy_cut.specs.Passes.{AreLeast, least_at, children_sum, keeps}
+use Rattle.energy_cut.specs.Cuts.{IsCut, IsLeastCut, cut_energy, leaf_numbers}
+use Rattle.energy_cut.specs.Passes.{AreLeast, children_sum, keeps}
 use Rattle.energy_cut.proofs.Totals.{total, sum-passing, total-agree, total-flat, total-le, total-tight}
-use Rattle.energy_cut.proofs.Lists.{any-from, any-to, range-from, range-to, has, has-from, has-to, passing-from, passing-to, rising-passing, passing-rises}
+use Rattle.energy_cut.proofs.Lists.{any-from, any-to, range-from, range-to, has, has-from, passing-from, passing-to, rising-passing, passing-rises}
 use Rattle.energy_cut.proofs.Covers.{free, free-to, highest, highest-one}
 use Rattle.energy_cut.proofs.Balance.{is_root, waits, below_sum, lost, balance, waits-roots}
 

@@ -1,23 +1,19 @@
 -- The least cut in the words of the definitions.
-use Rattle.std.proofs.Common.{◌≡◌, ℕ, ◌<◌, true, sym, ◌∙◌, subst, ap, arith, List, [], refl, length, get_or, map}
-use Rattle.std.specs.Prelude.{◌&&◌, Option, filter}
-use Rattle.std.specs.List.{range_with_len}
+use Rattle.std.proofs.Common.{◌≡◌, ℕ, ◌<◌, true, arith, List, [], refl, length}
+use Rattle.std.specs.Prelude.{◌&&◌}
 use Rattle.std.proofs.lemmas.Bool.{and_parts, and_from}
-use Rattle.hg_base.specs.Edges.{EdgeList, IsIn, AreApart, AreWithin, count_below}
-use Rattle.hg_base.specs.Labels.{Labelling, IsLabelling, labelling}
-use Rattle.hg_base.specs.Numbering.{is_head, key_label}
+use Rattle.hg_base.specs.Edges.{EdgeList, IsIn, AreApart, AreWithin}
 use Rattle.hg_base.specs.Tree.{ParentTree, IsAbove, tree_of}
 use Rattle.hg_base.specs.Levels.{is_above}
 use Rattle.hg_base.proofs.FrontOnce.{front-tree}
 use Rattle.hg_base.proofs.Tops.{is_above-from, is_above-to}
 use Rattle.partition_tree.specs.Forest.{IsForest}
 use Rattle.partition_tree.proofs.ForestClimbs.{forest-climbs, forest-leaves}
-use Rattle.energy_cut.specs.Cuts.{IsCut, IsLeastCut, cut_energy, least_cut_of}
-use Rattle.energy_cut.specs.Passes.{AreTops}
-use Rattle.energy_cut.specs.Regions.{RegionCut, in_one_region, energy_cut_of}
+use Rattle.energy_cut.specs.Cuts.{IsLeastCut, least_cut_of}
+use Rattle.energy_cut.specs.Regions.{in_one_region}
 use Rattle.energy_cut.proofs.Lists.{any-from, any-to}
 use Rattle.energy_cut.proofs.Best.{best_nodes, best-least}
-use Rattle.energy_cut.proofs.Listed.{least-found, least-one}
+use Rattle.energy_cut.proofs.Listed.{least-found}
 use Rattle.energy_cut.proofs.Gathering.{least_exist}
 
 -- the least cut of the definition is a least cut

@@ -1,9 +1,8 @@
 -- Nodes strictly below a node that passes a test, and nodes that are free of one.
-use Rattle.std.proofs.Common.{◌≡◌, ℕ, zero, suc, ◌+◌, ◌-◌, ◌<◌, ◌≤◌, Bool, true, false, inl, inr, refl, sym, ◌∙◌, subst, ap, arith, length}
-use Rattle.std.specs.Prelude.{◌⊎◌, ◌==◌, ◌&&◌, not}
+use Rattle.std.proofs.Common.{◌≡◌, ℕ, zero, suc, ◌+◌, ◌<◌, ◌≤◌, Bool, true, inl, inr, refl, sym, ◌∙◌, ap, arith, length}
+use Rattle.std.specs.Prelude.{◌==◌, ◌&&◌, not}
 use Rattle.std.specs.List.{range_with_len, list_any}
 use Rattle.std.proofs.lemmas.Bool.{cases_Bool, cases_eq, and_parts, and_from, eq-eqb, ne_eqb, false_from_ne_true, both_ways}
-use Rattle.hg_base.specs.Edges.{IsIn}
 use Rattle.hg_base.specs.Tree.{ParentTree, parent, IsAbove}
 use Rattle.hg_base.specs.Levels.{IsClimbing, is_above}
 use Rattle.hg_base.proofs.Climbs.{ancestor-root, above-on, above-next, above-either, above-within, above-rises}

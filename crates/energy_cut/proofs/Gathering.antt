@@ -1,7 +1,7 @@
 -- The pass that gathers the least energies up a tree, and that there are such.
-use Rattle.std.proofs.Common.{◌≡◌, ℕ, zero, suc, ◌+◌, ◌-◌, ◌*◌, ◌<◌, ◌≤◌, ◌^◌, Bool, true, false, cond, inl, inr, refl, sym, ◌∙◌, subst, ap, arith, List, [], ◌∷◌, ◌++◌, length, length-set, length-append, get_or, set, All}
-use Rattle.std.specs.Prelude.{◌⊎◌, min, nat_lt, replicate}
-use Rattle.std.proofs.lemmas.Bool.{cases_eq, cases_lt}
+use Rattle.std.proofs.Common.{◌≡◌, ℕ, zero, suc, ◌+◌, ◌*◌, ◌<◌, ◌≤◌, ◌^◌, Bool, true, false, cond, inl, inr, refl, sym, ◌∙◌, subst, ap, arith, List, [], ◌∷◌, ◌++◌, length, length-set, length-append, get_or, set}
+use Rattle.std.specs.Prelude.{min, nat_lt, replicate}
+use Rattle.std.proofs.lemmas.Bool.{cases_eq}
 use Rattle.std.proofs.lemmas.List.{get_or-set_same, get_or-set_other, get_or_push, get_or_append_left, length-replicate}
 use Rattle.hg_base.specs.Tree.{ParentTree, parent}
 use Rattle.hg_base.specs.Levels.{IsClimbing}
@@ -9,8 +9,8 @@ use Rattle.partition_tree.specs.Forest.{IsForest}
 use Rattle.partition_tree.specs.Children.{is_child}
 use Rattle.partition_tree.proofs.ForestClimbs.{forest-climbs}
 use Rattle.energy_cut.specs.Passes.{AreLeast, least_at, children_sum}
-use Rattle.energy_cut.proofs.Totals.{total, total-pass, total-skip, total-agree, total-small, sum-passing}
-use Rattle.energy_cut.proofs.Balance.{below_sum, below_sum-cut, is_child-from, not_child-from, root-child}
+use Rattle.energy_cut.proofs.Totals.{total, total-agree, total-small, sum-passing}
+use Rattle.energy_cut.proofs.Balance.{below_sum-cut, is_child-from, not_child-from, root-child}
 use Rattle.energy_cut.proofs.Best.{value}
 
 -- the children's sum from the values before the node

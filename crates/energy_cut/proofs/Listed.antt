@@ -1,21 +1,20 @@
 -- The list of all cuts, and the one least cut.
-use Rattle.std.proofs.Common.{◌≡◌, ℕ, zero, suc, ◌+◌, ◌<◌, ◌≤◌, Bool, true, false, cond, inl, inr, refl, sym, ◌∙◌, subst, ap, arith, List, [], ◌∷◌, ◌++◌, length, get_or, map}
-use Rattle.std.specs.Prelude.{◌⊎◌, ◌↔◌, ◌==◌, ◌&&◌, ◌||◌, filter, count_by, nat_lt, find, unwrap_or}
-use Rattle.std.specs.List.{range_with_len, list_any, list_all, sum_by}
+use Rattle.std.proofs.Common.{◌≡◌, ℕ, zero, suc, ◌+◌, ◌<◌, ◌≤◌, Bool, true, false, cond, inl, inr, refl, sym, ◌∙◌, subst, ap, arith, List, [], ◌∷◌, ◌++◌, length, map}
+use Rattle.std.specs.Prelude.{◌⊎◌, ◌==◌, ◌&&◌, ◌||◌, filter, count_by, nat_lt}
+use Rattle.std.specs.List.{range_with_len, list_any}
 use Rattle.std.specs.List.Sorted.{IsStrictlyIncreasing}
-use Rattle.std.proofs.lemmas.Bool.{cases_Bool, cases_eq, cases_lt, or_cases, or_left, or_right, and_parts, and_from, eqb-true, eq-eqb, false_from_ne_true, both_ways, lt-ltb, ltb-true, cond-true, cond-false}
+use Rattle.std.proofs.lemmas.Bool.{cases_Bool, cases_lt, or_cases, or_left, or_right, and_parts, and_from, eqb-true, eq-eqb, false_from_ne_true, both_ways, lt-ltb, ltb-true}
 use Rattle.std.proofs.lemmas.List.Sums.{sum_by-cons}
 use Rattle.hg_base.specs.Edges.{IsIn}
-use Rattle.hg_base.specs.Tree.{ParentTree, parent, IsAbove}
-use Rattle.hg_base.specs.Levels.{IsClimbing, is_above}
-use Rattle.hg_base.proofs.Climbs.{above-on, above-within, above-same}
+use Rattle.hg_base.specs.Tree.{ParentTree, IsAbove}
+use Rattle.hg_base.specs.Levels.{is_above}
+use Rattle.hg_base.proofs.Climbs.{above-on, above-same}
 use Rattle.hg_base.proofs.Members.{IsIn-filter, IsIn-kept}
-use Rattle.hg_base.proofs.Passing.{passing}
 use Rattle.hg_base.proofs.Sets.{same_test}
 use Rattle.hg_base.proofs.Tops.{is_above-from, is_above-to}
 use Rattle.partition_tree.specs.Forest.{IsForest}
 use Rattle.partition_tree.proofs.ForestClimbs.{forest-climbs, forest-leaves}
-use Rattle.energy_cut.specs.Cuts.{HasOneAbove, IsCut, IsLeastCut, IsCoarser, cut_energy, sublists, leaf_numbers, is_cut, cuts, is_coarser, is_least_cut, least_cut_of}
+use Rattle.energy_cut.specs.Cuts.{IsCut, IsLeastCut, IsCoarser, cut_energy, sublists, leaf_numbers, is_cut, cuts, is_coarser, is_least_cut, least_cut_of}
 use Rattle.energy_cut.proofs.Lists.{any-from, any-to, all-from, all-to, find-at, range-from, range-to, has, has-from, has-to, RisesFrom, rises-from, rises-to, rises-least, filter-agree, rising-passing}
 use Rattle.energy_cut.proofs.Best.{cut-within, has_leaf-from, has_leaf-to}
 

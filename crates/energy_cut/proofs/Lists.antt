@@ -1,9 +1,9 @@
 -- Members of lists, tests of lists, and rising lists of numbers.
-use Rattle.std.proofs.Common.{◌≡◌, ℕ, zero, suc, ◌+◌, ◌<◌, ◌≤◌, Bool, true, false, cond, inl, inr, refl, sym, ◌∙◌, subst, ap, arith, List, [], ◌∷◌, ◌++◌, length, get_or, map}
-use Rattle.std.specs.Prelude.{◌⊎◌, ◌==◌, ◌&&◌, ◌||◌, filter, find, Option, Some, None, unwrap_or}
+use Rattle.std.proofs.Common.{◌≡◌, ℕ, zero, suc, ◌+◌, ◌<◌, ◌≤◌, Bool, true, false, cond, inl, inr, refl, sym, ◌∙◌, subst, ap, arith, List, [], ◌∷◌, get_or}
+use Rattle.std.specs.Prelude.{◌==◌, filter, find, unwrap_or}
 use Rattle.std.specs.List.{range_with_len, list_any, list_all}
 use Rattle.std.specs.List.Sorted.{IsStrictlyIncreasing}
-use Rattle.std.proofs.lemmas.Bool.{cases_Bool, cases_lt, cases_eq, or_cases, or_left, or_right, and_parts, and_from, false≢true, eq-eqb, eqb-true, false_from_ne_true, cond-true, cond-false}
+use Rattle.std.proofs.lemmas.Bool.{cases_Bool, cases_eq, or_cases, or_left, or_right, and_parts, and_from, false≢true, eq-eqb, eqb-true, false_from_ne_true, cond-true, cond-false}
 use Rattle.hg_base.specs.Edges.{IsIn}
 use Rattle.hg_base.proofs.Members.{IsIn-filter, IsIn-kept}
 use Rattle.hg_base.proofs.Passing.{passing}

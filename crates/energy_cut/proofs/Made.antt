@@ -1,25 +1,25 @@
 -- What the passes have made is the least cut of the definition.
-use Rattle.std.proofs.Common.{◌≡◌, ℕ, ◌+◌, ◌*◌, ◌<◌, ◌≤◌, ◌^◌, cond, refl, sym, ◌∙◌, subst, ap, arith, List, length, get_or, set, map, take, drop, All, Bool, false, ◌++◌, append-nil}
-use Rattle.std.specs.Prelude.{Option, Some, None, IfSome, filter, min, nat_lt}
+use Rattle.std.proofs.Common.{◌≡◌, ℕ, ◌+◌, ◌*◌, ◌<◌, ◌≤◌, ◌^◌, sym, ◌∙◌, subst, ap, arith, List, length, get_or, set, map, take, drop, All, Bool, false, ◌++◌, append-nil}
+use Rattle.std.specs.Prelude.{Option, None, IfSome, filter}
 use Rattle.std.specs.List.{range_with_len}
 use Rattle.std.proofs.lemmas.List.{get_or-set_other, get_or-take, length-take-le, drop_all, take_all}
 use Rattle.std.proofs.Math.Nat.{mul-le-mul_right}
-use Rattle.hg_base.specs.Edges.{IsIn, count_below}
+use Rattle.hg_base.specs.Edges.{count_below}
 use Rattle.hg_base.specs.Labels.{Labelling, IsLabelling, labelling}
 use Rattle.hg_base.specs.Numbering.{is_head, key_label}
 use Rattle.hg_base.specs.Tree.{ParentTree, parent}
-use Rattle.hg_base.proofs.Passing.{passing, length-passing, count_below-most}
+use Rattle.hg_base.proofs.Passing.{length-passing, count_below-most}
 use Rattle.partition_tree.specs.Forest.{IsForest}
-use Rattle.partition_tree.proofs.ForestClimbs.{forest-climbs, forest-leaves}
+use Rattle.partition_tree.proofs.ForestClimbs.{forest-leaves}
 use Rattle.energy_cut.specs.Cuts.{IsLeastCut, cut_energy, least_cut_of}
 use Rattle.energy_cut.specs.Passes.{AreTops, is_key, least_at}
 use Rattle.energy_cut.specs.Regions.{RegionCut, in_one_region, region_cut, energy_cut_of}
 use Rattle.energy_cut.proofs.Best.{value, best_nodes, best-least, is_best, cut-within}
 use Rattle.energy_cut.proofs.Chosen.{least-is}
-use Rattle.energy_cut.proofs.Gathering.{AreGathered, gathered-small, least_at-own, chosen-is, gathered_next, next_root, next_inner}
+use Rattle.energy_cut.proofs.Gathering.{AreGathered, gathered-small, least_at-own}
 use Rattle.energy_cut.proofs.Listed.{least-one}
 use Rattle.energy_cut.proofs.Lists.{filter-agree}
-use Rattle.energy_cut.proofs.Tops.{AreLeafKeys, cut_nodes, keys-below, chosen-nodes, region-labels, in-at}
+use Rattle.energy_cut.proofs.Tops.{AreLeafKeys, keys-below, chosen-nodes, region-labels, in-at}
 
 -- the first tops are the keys of the leaves
 pub leaf-keys : (t : ParentTree) (e : List ℕ) (tops slice : List (Option ℕ)) (n : ℕ) → IsForest t → AreTops t e tops → slice ≡ tops → n ≡ t.leaves → AreLeafKeys t e tops (take n slice)

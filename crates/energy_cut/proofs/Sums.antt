@@ -1,6 +1,6 @@
 -- Energies and their sums are small.
-use Rattle.std.proofs.Common.{◌≡◌, ℕ, suc, ◌+◌, ◌*◌, ◌<◌, ◌≤◌, ◌^◌, sym, ◌∙◌, subst, ap, arith, List, [], ◌∷◌, ◌++◌, length, get_or, take, map, All, inl, inr}
-use Rattle.std.specs.List.{range_with_len, sum_by}
+use Rattle.std.proofs.Common.{◌≡◌, ℕ, ◌+◌, ◌*◌, ◌<◌, ◌≤◌, ◌^◌, sym, subst, ap, arith, List, [], ◌∷◌, ◌++◌, length, get_or, take, map, All, inl, inr}
+use Rattle.std.specs.List.{range_with_len}
 use Rattle.std.proofs.lemmas.Bool.{cases_lt}
 use Rattle.std.proofs.lemmas.List.{get_or_past}
 use Rattle.std.proofs.lemmas.List.FromFn.{length-map-range_with_len, get_or-map-range_with_len, map-range_with_len_more}
@@ -8,7 +8,7 @@ use Rattle.std.proofs.lemmas.List.Sums.{sum_by-le, sum_by_more}
 use Rattle.std.proofs.lemmas.Nat.{mul-le}
 use Rattle.std.proofs.Math.Nat.{mul-le-mul_right}
 use Rattle.hg_base.specs.Tree.{ParentTree, altitude}
-use Rattle.hg_base.proofs.Passing.{passing, length-passing, count_below-most}
+use Rattle.hg_base.proofs.Passing.{length-passing, count_below-most}
 use Rattle.partition_tree.specs.Forest.{nodes, IsForest}
 use Rattle.energy_cut.specs.Cuts.{IsCut, cut_energy}
 use Rattle.energy_cut.specs.Energies.{node_energy, energies_of}

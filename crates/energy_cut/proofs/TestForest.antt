@@ -1,5 +1,5 @@
 -- A small forest of which an inner node is above no leaf.
-use Rattle.std.proofs.Common.{◌≡◌, ℕ, zero, suc, ◌<◌, ◌≤◌, refl, arith, [], ◌∷◌}
+use Rattle.std.proofs.Common.{◌≡◌, ℕ, zero, suc, ◌<◌, refl, arith, [], ◌∷◌}
 use Rattle.hg_base.specs.Tree.{parent, altitude}
 use Rattle.partition_tree.specs.Forest.{IsForest, lists_of}
 

@@ -1,25 +1,23 @@
 -- The tops of the leaves: they are the nodes of the least cut, and the keys of its regions.
-use Rattle.std.proofs.Common.{◌≡◌, ℕ, zero, suc, ◌+◌, ◌<◌, ◌≤◌, Bool, true, false, inl, inr, refl, sym, ◌∙◌, subst, ap, arith, List, length, get_or, map, All, [], ◌∷◌}
-use Rattle.std.specs.Prelude.{◌⊎◌, ◌==◌, ◌&&◌, Option, Some, None, IfSome, unwrap_or, filter}
+use Rattle.std.proofs.Common.{◌≡◌, ℕ, zero, suc, ◌<◌, Bool, true, false, inl, inr, refl, sym, ◌∙◌, subst, ap, arith, List, length, get_or, map, All, [], ◌∷◌}
+use Rattle.std.specs.Prelude.{◌==◌, ◌&&◌, Option, Some, None, IfSome, unwrap_or, filter}
 use Rattle.std.specs.Option.{option_map_or}
-use Rattle.std.specs.List.{range_with_len, list_any}
-use Rattle.std.proofs.lemmas.Bool.{cases_eq, cases_Bool, and_parts, and_from, eqb-true, eq-eqb}
+use Rattle.std.specs.List.{range_with_len}
+use Rattle.std.proofs.lemmas.Bool.{and_parts, and_from, eqb-true, eq-eqb}
 use Rattle.std.proofs.lemmas.List.{get_or_default}
 use Rattle.hg_base.specs.Edges.{IsIn, count_below}
-use Rattle.hg_base.specs.Labels.{Labelling, IsLabelling, labelling}
 use Rattle.hg_base.specs.Numbering.{is_head, same_key, key_label}
-use Rattle.hg_base.specs.Tree.{ParentTree, parent, IsAbove}
+use Rattle.hg_base.specs.Tree.{ParentTree, IsAbove}
 use Rattle.hg_base.specs.Levels.{is_above}
 use Rattle.hg_base.proofs.Climbs.{above-within}
 use Rattle.hg_base.proofs.KeyClasses.{same_key-from, same_key-to, classing-of_keys, AreLabels, labels-by_keys}
-use Rattle.hg_base.proofs.Passing.{passing}
 use Rattle.hg_base.proofs.Sets.{same_test}
 use Rattle.hg_base.proofs.Tops.{is_above-from, is_above-to}
 use Rattle.partition_tree.specs.Forest.{IsForest}
 use Rattle.partition_tree.proofs.ForestClimbs.{forest-climbs, forest-leaves}
-use Rattle.energy_cut.specs.Passes.{AreLeast, IsHighest, AreTops, keeps, is_key}
+use Rattle.energy_cut.specs.Passes.{IsHighest, AreTops, keeps, is_key}
 use Rattle.energy_cut.specs.Regions.{in_one_region}
-use Rattle.energy_cut.proofs.Lists.{any-from, any-to, range-to, passing-from, passing-to, filter-agree}
+use Rattle.energy_cut.proofs.Lists.{any-from, any-to, passing-from, passing-to, filter-agree}
 use Rattle.energy_cut.proofs.Covers.{free-from}
 use Rattle.energy_cut.proofs.Best.{has_leaf-from, has_leaf-to, leaf-keeps, is_best, best_nodes, best-cut}
 

@@ -1,5 +1,5 @@
 -- Cuts of a tree, and the least of them. Energies of nodes are a list, by number of node.
-use Rattle.std.specs.Prelude.{◌≡◌, ◌==◌, ℕ, ◌+◌, ◌<◌, ◌≤◌, Bool, ◌&&◌, ◌||◌, List, [], ◌∷◌, ◌++◌, map, filter, find, count_by, nat_lt, slice_index, unwrap_or}
+use Rattle.std.specs.Prelude.{◌≡◌, ◌==◌, ℕ, ◌<◌, ◌≤◌, Bool, ◌&&◌, ◌||◌, List, [], ◌∷◌, ◌++◌, map, filter, find, count_by, nat_lt, slice_index, unwrap_or}
 use Rattle.std.specs.List.{range_with_len, list_all, list_any, sum_by}
 use Rattle.std.specs.List.Sorted.{IsStrictlyIncreasing}
 use Rattle.hg_base.specs.Edges.{IsIn}

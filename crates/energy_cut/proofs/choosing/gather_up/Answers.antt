@@ -1,4 +1,4 @@
-use Rattle.std.proofs.Common.{◌≡◌, ◌<◌, ◌+◌, ◌^◌, ℕ, cond, suc, sym, ◌∙◌, ap, subst, arith, List, length, get_or, set}
+use Rattle.std.proofs.Common.{◌≡◌, ◌<◌, ◌+◌, ◌^◌, ℕ, cond, suc, sym, ◌∙◌, ap, subst, arith, length, set}
 use Rattle.std.specs.Prelude.{min, nat_lt}
 use Rattle.partition_tree.proofs.ForestClimbs.{forest-climbs}
 use Rattle.energy_cut.specs.Passes.{least_at}

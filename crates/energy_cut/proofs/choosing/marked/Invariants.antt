@@ -1,4 +1,4 @@
-use Rattle.std.proofs.Common.{◌≡◌, ℕ, get_or, false}
+use Rattle.std.proofs.Common.{◌≡◌, get_or, false}
 use Rattle.std.specs.Prelude.{filter}
 use Rattle.std.specs.List.{range_with_len}
 use Rattle.energy_cut.proofs.choosing.marked.Given as goal

@@ -1,5 +1,5 @@
-use Rattle.std.proofs.Common.{◌≡◌, ◌+◌, ◌-◌, ◌<◌, ℕ, suc, sym, ◌∙◌, ap, subst, arith, List, length, get_or}
-use Rattle.std.specs.Prelude.{Option, Some, None}
+use Rattle.std.proofs.Common.{◌≡◌, ◌-◌, ◌<◌, ℕ, suc, sym, ap, subst, arith, length, get_or}
+use Rattle.std.specs.Prelude.{None}
 use Rattle.partition_tree.proofs.ForestClimbs.{forest-climbs}
 use Rattle.energy_cut.specs.Passes.{keeps}
 use Rattle.energy_cut.proofs.Sending.{AreHighestFrom, IsTopOf, top-next, highest_next, highest_all}

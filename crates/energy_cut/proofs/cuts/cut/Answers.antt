@@ -1,6 +1,5 @@
-use Rattle.std.proofs.Common.{◌≡◌, ℕ, ◌∙◌, ◌<◌, ◌≤◌, All, sym, ap, subst, List, length}
-use Rattle.energy_cut.specs.Cuts.{IsLeastCut}
-use Rattle.energy_cut.proofs.Made.{AreChosen, AreRegions, keys-fit, made-chosen, made-regions, made-cut}
+use Rattle.std.proofs.Common.{ℕ, ◌<◌, ◌≤◌, All, sym, subst, List, length}
+use Rattle.energy_cut.proofs.Made.{AreChosen, keys-fit, made-chosen, made-regions, made-cut}
 use Rattle.energy_cut.proofs.cuts.cut.Goals as goal
 
 pub chosen-requires : goal.chosen-requires

@@ -1,2 +1,5 @@
 pub mod SideLemmas
 pub mod TreeFacts
+pub mod HoldLemmas
+pub mod SurvivorLemmas
+pub mod Bottoms

@@ -1,5 +1,5 @@
 -- The lowest node that holds a minimum: its vertices are those of the minimum.
-use Rattle.std.proofs.Common.{◌≡◌, ◌≢◌, ℕ, zero, suc, ◌+◌, ◌-◌, ◌<◌, ◌≤◌, Bool, true, false, ◌⊎◌, inl, inr, refl, sym, ◌∙◌, subst, ap, arith, List, length, get_or, map}
+use Rattle.std.proofs.Common.{◌≡◌, ◌≢◌, ℕ, zero, suc, ◌+◌, ◌-◌, ◌<◌, ◌≤◌, Bool, true, false, ◌⊎◌, inl, inr, refl, sym, ◌∙◌, subst, ap, arith, List, [], length, get_or, map}
 use Rattle.std.specs.Prelude.{◌↔◌, ◌==◌, ◌&&◌, nat_le, Option, unwrap_or, slice_get}
 use Rattle.std.specs.List.{range_with_len}
 use Rattle.std.proofs.lemmas.Bool.{cases_Bool, cases_lt, cases_order, cases_eq, both_ways, and_parts, cond-true, cond-false, true_from_ne_false, false_from_ne_true}
@@ -12,7 +12,7 @@ use Rattle.hg_base.specs.Saliency.{at_most}
 use Rattle.hg_base.specs.Tree.{ParentTree, parent, altitude, ancestor, IsAbove, graph_tree, place}
 use Rattle.hg_base.specs.Levels.{IsTop}
 use Rattle.hg_base.specs.Zones.{maker}
-use Rattle.hg_base.proofs.Climbs.{above-on, above-either, above-within, above-rises, above-parent, ancestor-within}
+use Rattle.hg_base.proofs.Climbs.{above-on, above-either, above-within, above-same, above-rises, above-parent, ancestor-within}
 use Rattle.hg_base.proofs.Counts.{is_least-to}
 use Rattle.hg_base.proofs.Drops.{holds}
 use Rattle.hg_base.proofs.FrontOnce.{leaf_or_made, ends-apart, below-ends}
@@ -65,8 +65,8 @@ labelled-member n s x h = in_minimum-to n s x (true_from_ne_false (in_minimum n 
     let zero' : vertex_label n s x ≡ 0 = cond-false (in_minimum n s x) _ _ off in omega arith))
 
 -- the plateau of the parent of a vertex in a minimum is the lowest node of the minimum
-pub bottom-of : (g : WeightedGraph) → IsGraph g → (x : ℕ) → InMinimum g.n (ranked g) x → (q : ℕ) × IsBottom g (vertex_label g.n (ranked g) x) q
-bottom-of g h x mx = (q, record { node = above-within t o.climbs q (parent t x) hp top.above; only = only; all = all })
+pub bottom-of : (g : WeightedGraph) → IsGraph g → (x : ℕ) → InMinimum g.n (ranked g) x → (q : ℕ) × (IsBottom g (vertex_label g.n (ranked g) x) q × IsPlateau (graph_tree g) (parent (graph_tree g) x) q)
+bottom-of g h x mx = (q, (record { node = above-within t o.climbs q (parent t x) hp top.above; only = only; all = all }, top))
   where
     t : ParentTree
     t = graph_tree g
@@ -135,7 +135,7 @@ bottom-label g h label is =
     let its : vertex_label n s x ≡ label =
     cond-true (in_minimum n s x) _ _ head.0 ∙ ap (λ (z : ℕ). suc (count_below (is_head n s) z)) own ∙ (let e : count_below (is_head n s) x ≡ label - 1 = found.1.1.1 in omega arith) in
     let b = bottom-of g h x (in_minimum-to n s x head.0) in
-    (b.0, subst (λ (k : ℕ). IsBottom g k b.0) its b.1)
+    (b.0, subst (λ (k : ℕ). IsBottom g k b.0) its b.1.0)
 
 -- a vertex below a lowest node
 bottom-leaf : (g : WeightedGraph) → IsGraph g → (label q : ℕ) → IsBottom g label q → (x : ℕ) × ((x < g.n) × IsAbove (graph_tree g) q x)
@@ -159,3 +159,42 @@ bottom-over g label q i b up x hx same = above-on (graph_tree g) i q x up (b.all
 -- a lowest node has one label
 pub bottom-one : (g : WeightedGraph) → IsGraph g → (l k q : ℕ) → IsBottom g l q → IsBottom g k q → l ≡ k
 bottom-one g h l k q a b = let x = bottom-leaf g h l q a in sym (a.only x.0 x.1.0 x.1.1) ∙ b.only x.0 x.1.0 x.1.1
+
+-- the lowest nodes of one label are one
+pub bottom-same : (g : WeightedGraph) → IsGraph g → (label q r : ℕ) → IsBottom g label q → IsBottom g label r → q ≡ r
+bottom-same g h label q r a b =
+    above-same (graph_tree g) (of-graph g h).climbs q r a.node b.node (over-bottom g h label r q b a.node a.all) (over-bottom g h label q r a b.node b.all)
+
+-- an edge that joins two vertices of one minimum is a minimum edge
+pub inside-minimum : (g : WeightedGraph) → IsGraph g → (e : ListedEdge) → IsIn e (joins (ranked g)) → (label : ℕ) → 1 ≤ label →
+    vertex_label g.n (ranked g) e.u ≡ label → vertex_label g.n (ranked g) e.v ≡ label → IsMinimumEdge (ranked g) e
+inside-minimum g h e i label some' lu lv =
+    let s = ranked g in
+    let n = g.n in
+    let o = of-graph g h in
+    let kept = IsIn-joins_kept s e i in
+    let mu = labelled-member n s e.u (omega arith) in
+    let mv = labelled-member n s e.v (omega arith) in
+    let m = same_minimum-to n s e.u e.v (label-same n s e.u e.v (in_minimum-from n s e.u mu) (in_minimum-from n s e.v mv) (lu ∙ sym lv)) in
+    elim m.joined [
+      | inl same ↦ absurd ((levelled g h).apart e kept.0 same)
+      | inr f ↦
+          let w = f.0.weight in
+          let light : f.0.weight ≤ e.weight = f.1.0.0.lowest e.u e.u e f.1.0.1 ([], refl) kept.0 (inl refl) in
+          minimum-next s f.0 e e.u f.1.0.0 f.1.0.1 kept.0 (elim (cases_lt w e.weight) [
+            | inl lower ↦ absurd (ends-apart s e i (joined-among (level s w) (below s e.rank) e.u e.v (λ k j. before k j lower) (holds (level s w) e.u e.v f.1.1)))
+            | inr heavy ↦ omega arith
+          ]) (inl refl)
+    ]
+  where
+    before : (k : ListedEdge) → {w : ℕ} → IsIn k (level (ranked g) w) → w < e.weight → IsIn k (below (ranked g) e.rank)
+    before k {w} j lower =
+        let p = level-to (ranked g) w k j in
+        let kept = IsIn-joins_kept (ranked g) e i in
+        IsIn-below k (ranked g) e.rank p.0 (elim (cases_order k.rank e.rank) [
+          | inl level' ↦ absurd (let same : k.weight ≡ e.weight = ap (λ (x : ListedEdge). x.weight) (apart-one (ranked g) (of-graph g h).apart k e p.0 kept.0 level') in let own : k.weight ≡ w = p.1 in omega arith)
+          | inr other ↦ elim other [
+            | inl low ↦ low
+            | inr high ↦ absurd (let rises : e.weight ≤ k.weight = (of-graph g h).by_weight e k kept.0 p.0 high in let own : k.weight ≡ w = p.1 in omega arith)
+          ]
+        ])

@@ -3,3 +3,4 @@ pub mod TreeFacts
 pub mod HoldLemmas
 pub mod SurvivorLemmas
 pub mod Bottoms
+pub mod NodeLabels

@@ -4,3 +4,7 @@ pub mod HoldLemmas
 pub mod SurvivorLemmas
 pub mod Bottoms
 pub mod NodeLabels
+pub mod Worth
+pub mod Turns
+pub mod ByPersistence
+pub mod LevelZero

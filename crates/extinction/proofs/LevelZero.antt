@@ -181,12 +181,18 @@ child-holding : (t : ParentTree) (m : LabelledMinima) (i k a : ℕ) → child_co
 child-holding t m i k a two low is = ap (λ (c : ℕ). nat_lt k c && holding t m (child t i k)) two ∙ rw (lt-ltb k 2 low) (ap (holding t m) is)
 
 pub value-of : (g : WeightedGraph) → IsGraph g → (kind : Kind) (e : ListedEdge) → IsIn e (joins (ranked g)) → (a : ℕ) × ((b : ℕ) × IsValueOf g kind e a b)
-value-of g h kind e i = (a, (b, record {
-  sides = kids.sides;
-  both = λ p q. at ∙ cond-true (both_hold t m q') _ _ (and_from _ _ (first ∙ p) (second ∙ q)) ∙ ap (λ (x : ℕ). min (get_or v x 0) (get_or v (child t q' 1) 0)) kids.first ∙ ap (λ (x : ℕ). min (get_or v a 0) (get_or v x 0)) kids.second;
-  first = λ p. at ∙ cond-false (both_hold t m q') _ _ (and_left _ _ (first ∙ p));
-  second = λ q. at ∙ cond-false (both_hold t m q') _ _ (and_right _ _ (second ∙ q));
-}))
+value-of g h kind e i = (
+  a,
+  (
+    b,
+    record {
+      sides = kids.sides;
+      both = λ p q. at ∙ cond-true (both_hold t m q') _ _ (and_from _ _ (first ∙ p) (second ∙ q)) ∙ ap (λ (x : ℕ). min (get_or v x 0) (get_or v (child t q' 1) 0)) kids.first ∙ ap (λ (x : ℕ). min (get_or v a 0) (get_or v x 0)) kids.second;
+      first = λ p. at ∙ cond-false (both_hold t m q') _ _ (and_left _ _ (first ∙ p));
+      second = λ q. at ∙ cond-false (both_hold t m q') _ _ (and_right _ _ (second ∙ q));
+    },
+  ),
+)
   where
     t : ParentTree
     t = graph_tree g
@@ -235,18 +241,30 @@ ends-values g h kind e i =
     let b = r.1.0 in
     let v = r.1.1 in
     elim v.sides [
-      | inl sides ↦ (a, (b, record {
-        sides = sides;
-        both = λ p q. (let wa = side-worth g h kind e e.u a sides.first p in let wb = side-worth g h kind e e.v b sides.second q in let is = v.both p q in omega (arith, wa, wb, is));
-        first = v.first;
-        second = v.second;
-      }))
-      | inr sides ↦ (b, (a, record {
-        sides = sides;
-        both = λ p q. (let wb = side-worth g h kind e e.u b sides.first p in let wa = side-worth g h kind e e.v a sides.second q in let is = v.both q p in omega (arith, wa, wb, is));
-        first = v.second;
-        second = v.first;
-      }))
+      | inl sides ↦ (
+        a,
+        (
+          b,
+          record {
+            sides = sides;
+            both = λ p q. (let wa = side-worth g h kind e e.u a sides.first p in let wb = side-worth g h kind e e.v b sides.second q in let is = v.both p q in omega (arith, wa, wb, is));
+            first = v.first;
+            second = v.second;
+          },
+        ),
+      )
+      | inr sides ↦ (
+        b,
+        (
+          a,
+          record {
+            sides = sides;
+            both = λ p q. (let wb = side-worth g h kind e e.u b sides.first p in let wa = side-worth g h kind e e.v a sides.second q in let is = v.both q p in omega (arith, wa, wb, is));
+            first = v.second;
+            second = v.first;
+          },
+        ),
+      )
     ]
 
 -- the persistence of a minimum edge, and of a forest edge, is 0
@@ -280,9 +298,9 @@ zero-trees g h kind e i zero' = elim (cases_Bool (is_minimum (ranked g) e)) [
       let s = ranked g in
       let r = ends-values g h kind e i in
       inl (and_from _ _ (IsIn-joins_kept s e i).1 (and_from _ _ (not_from_false _ outside) (not_from_false _ (false_from_ne_true (reaches n s e.rank e.u && reaches n s e.rank e.v) (λ both.
-          let p = and_parts (reaches n s e.rank e.u) (reaches n s e.rank e.v) both in
-          let some' = r.1.1.both (reaches-side g h e i e.u r.0 r.1.1.sides.first outside p.0) (reaches-side g h e i e.v r.1.0 r.1.1.sides.second outside p.1) in
-          omega (arith, some', zero'))))))
+      let p = and_parts (reaches n s e.rank e.u) (reaches n s e.rank e.v) both in
+      let some' = r.1.1.both (reaches-side g h e i e.u r.0 r.1.1.sides.first outside p.0) (reaches-side g h e i e.v r.1.0 r.1.1.sides.second outside p.1) in
+      omega (arith, some', zero'))))))
 ]
 
 -- the edges of the list by persistence at level 0
@@ -302,16 +320,16 @@ ground-trees g h kind x y j =
     let s = ranked g in
     let n = g.n in
     joined_into (ground g kind) (joined (trees g.n (ranked g))) (IsSame-joined (trees g.n (ranked g))) (λ f i.
-        let a = at_most-to (hierarchy_edges (ranked g) (persistences_of g kind)) 0 f i in
-        let e = in-map (by_persistence (ranked g) (persistences_of g kind)) f (joins (ranked g)) a.0 in
-        let w : get_or (persistences_of g kind) (place (ranked g) e.0) 0 ≡ f.weight = ap (λ (k : ListedEdge). k.weight) e.1.1 in
-        let light : f.weight ≤ 0 = a.1 in
-        let kept = IsIn-joins_kept s e.0 e.1.0 in
-        let member : IsIn e.0 (trees n s) = elim (zero-trees g h kind e.0 e.1.0 (omega arith)) [
-          | inl forest ↦ IsIn-append e.0 (filter (is_forest n s) s) (minimum_edges s) (inl (IsIn-filter (is_forest n s) e.0 s forest kept.0))
-          | inr least ↦ IsIn-append e.0 (filter (is_forest n s) s) (minimum_edges s) (inr (IsIn-filter (is_minimum s) e.0 s least kept.0))
-        ] in
-        subst (λ (k : ListedEdge). joined (trees g.n (ranked g)) k.u k.v ≡ true) e.1.1 (joined-ends (trees n s) e.0 member)) x y j
+    let a = at_most-to (hierarchy_edges (ranked g) (persistences_of g kind)) 0 f i in
+    let e = in-map (by_persistence (ranked g) (persistences_of g kind)) f (joins (ranked g)) a.0 in
+    let w : get_or (persistences_of g kind) (place (ranked g) e.0) 0 ≡ f.weight = ap (λ (k : ListedEdge). k.weight) e.1.1 in
+    let light : f.weight ≤ 0 = a.1 in
+    let kept = IsIn-joins_kept s e.0 e.1.0 in
+    let member : IsIn e.0 (trees n s) = elim (zero-trees g h kind e.0 e.1.0 (omega arith)) [
+      | inl forest ↦ IsIn-append e.0 (filter (is_forest n s) s) (minimum_edges s) (inl (IsIn-filter (is_forest n s) e.0 s forest kept.0))
+      | inr least ↦ IsIn-append e.0 (filter (is_forest n s) s) (minimum_edges s) (inr (IsIn-filter (is_minimum s) e.0 s least kept.0))
+    ] in
+    subst (λ (k : ListedEdge). joined (trees g.n (ranked g)) k.u k.v ≡ true) e.1.1 (joined-ends (trees n s) e.0 member)) x y j
 
 -- level 0 joins the ends of each minimum edge
 minimum-ground : (g : WeightedGraph) → IsGraph g → (kind : Kind) (bound : ℕ) (e : ListedEdge) → e.rank < bound → IsMinimumEdge (ranked g) e → joined (ground g kind) e.u e.v ≡ true

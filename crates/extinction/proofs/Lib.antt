@@ -8,3 +8,6 @@ pub mod Worth
 pub mod Turns
 pub mod ByPersistence
 pub mod LevelZero
+pub mod PairLemmas
+pub mod OwnLemmas
+pub mod SurvivorPasses

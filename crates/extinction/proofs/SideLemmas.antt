@@ -46,7 +46,7 @@ child-found t i k j c =
     ap (λ (o : Option ℕ). unwrap_or o i) (find-only (λ x. is_child t i x && (count_below (is_child t i) x == k)) 0 (length t.parents) j (omega arith) (let node : j < length t.parents = c.node in omega arith)
     (and_from _ _ own (eq-eqb (count_below (is_child t i) j) k c.before))
     (λ x h. let p = and_parts (is_child t i x) (count_below (is_child t i) x == k) h in
-        count-same (is_child t i) x j p.0 own (eqb-true (count_below (is_child t i) x) k p.1 ∙ sym c.before)))
+    count-same (is_child t i) x j p.0 own (eqb-true (count_below (is_child t i) x) k p.1 ∙ sym c.before)))
 
 -- two numbers alone that pass
 pub record AreTwo (p : ℕ → Bool) (n a b : ℕ) : Type 0 where
@@ -196,10 +196,10 @@ child-side n s h e i a b sides f leaf j hj own =
       | inr above ↦ elim (above-next t j k above) [
         | inl same ↦ same
         | inr later ↦ absurd (
-          let high = above-rises t c j (parent t k) (c.within k hk) later in
-          let rises : j ≤ parent t j = c.rises j hj in
-          let other : parent t j ≡ j → ⊥ = child-other t (n + place s e) j own in
-          grind (arith, high, up, parent_is, rises, other))
+            let high = above-rises t c j (parent t k) (c.within k hk) later in
+            let rises : j ≤ parent t j = c.rises j hj in
+            let other : parent t j ≡ j → ⊥ = child-other t (n + place s e) j own in
+            grind (arith, high, up, parent_is, rises, other))
       ]
     ]
 
@@ -224,8 +224,14 @@ children-of n s h within e i f leaf =
       | inl level ↦ absurd (apart level)
       | inr other ↦ elim other [
         | inl lower ↦ (a, (b, made a b (inl sides) lower sides.second.less (side-child n s e e.u a sides.first) (side-child n s e e.v b sides.second) sides.second.node (λ j hj own. child-side n s h e i a b sides f leaf j hj own)))
-        | inr higher ↦ (b, (a, made b a (inr sides) higher sides.first.less (side-child n s e e.v b sides.second) (side-child n s e e.u a sides.first) sides.first.node
-            (λ j hj own. elim (child-side n s h e i a b sides f leaf j hj own) [ inl first ↦ inr first | inr second ↦ inl second ])))
+        | inr higher ↦ (
+          b,
+          (
+            a,
+            made b a (inr sides) higher sides.first.less (side-child n s e e.v b sides.second) (side-child n s e e.u a sides.first) sides.first.node
+                (λ j hj own. elim (child-side n s h e i a b sides f leaf j hj own) [ inl first ↦ inr first | inr second ↦ inl second ]),
+          ),
+        )
       ]
     ]
   where

@@ -1,14 +1,12 @@
-ghost use Rattle.std.specs.Prelude.{◌≡◌, ℕ, ◌<◌, ◌≤◌, true, false, length, slice_index, IfOk, IfSome, MatchOption};
+ghost use Rattle.std.specs.Prelude.{◌≡◌, ℕ, ◌<◌, length, replicate, IfOk};
 ghost use Rattle.hg_base.specs.Graph.{WeightedGraph};
-ghost use Rattle.hg_base.specs.Labels.{IsLabel};
-ghost use Rattle.partition_tree.specs.Forest.{nodes};
 ghost use Rattle.extinction.specs.Values.{values_of, AreOf, AreOfOne};
-ghost use Rattle.extinction.specs.Holding.{both_hold};
-ghost use Rattle.extinction.specs.Survivors.{dying, survivors, extinctions, extinctions_of};
-ghost use Rattle.extinction.specs.Passes.{AreRootsFrom, AreDeathsFrom};
+ghost use Rattle.extinction.specs.Survivors.{extinctions, extinctions_of};
+ghost use Rattle.extinction.specs.Passes.{dying_after, AreSurvivors, AreRootsFrom, AreDeathsFrom};
 
 use crate::kind::Kind;
-use crate::survive::{dies, survivors};
+use crate::pairs::children;
+use crate::survive::{Survivors, dies};
 use attributes::Attributes;
 use hg_base::OutOfMemory;
 use partition_tree::Tree;
@@ -41,30 +39,30 @@ fn by_survivors(
     requires { AreOfOne tree.now attributes.now minima.now }
     ensures { IfOk result (λ values. values.items ≡ extinctions tree.now minima.now (values_of kind attributes.now)) }
 {
-    let labels = survivors(alloc, tree, attributes, minima, kind)?;
+    let survivors = Survivors::of(alloc, tree, attributes, minima, kind)?;
     let mut values = vec![in alloc; 0; minima.count() as usize]?;
-    note_roots(tree, attributes, minima, kind, &labels, &mut values);
-    note_deaths(tree, attributes, minima, kind, &labels, &mut values);
+    note_roots(tree, attributes, minima, kind, &survivors, &mut values);
+    note_deaths(tree, attributes, minima, kind, &survivors, &mut values);
     Ok(values)
 }
 
-// Gives the survivor of each root the root's attribute.
+// Gives the survivor of each root the root's attribute. The least root comes last.
 fn note_roots(
     tree: &Tree,
     attributes: &Attributes,
     minima: &Minima,
     kind: Kind,
-    labels: &[u32],
+    survivors: &Survivors,
     values: &mut [u64],
 )
     requires one { AreOfOne tree.now attributes.now minima.now }
-    requires labels { labels.now ≡ survivors tree.now minima.now (values_of kind attributes.now) }
-    requires values { AreRootsFrom tree.now minima.now (values_of kind attributes.now) labels.now (nodes tree.now) values.old }
-    ensures { AreRootsFrom tree.now minima.now (values_of kind attributes.now) labels.now 0 values.new }
+    requires survivors { AreSurvivors tree.now minima.now (values_of kind attributes.now) survivors.now.pairs.items survivors.now.labels.items }
+    requires values { values.old ≡ replicate minima.now.count 0 }
+    ensures { AreRootsFrom tree.now minima.now (values_of kind attributes.now) survivors.now.labels.items 0 values.new }
 {
     let _ = minima;
     for i in (0..tree.nodes()).rev() {
-        let label = labels[i as usize];
+        let label = survivors.labels[i as usize];
         if label != 0 && tree.parent(i) == i {
             values[label as usize - 1] = kind.value(attributes, i);
         }
@@ -77,41 +75,31 @@ fn note_deaths(
     attributes: &Attributes,
     minima: &Minima,
     kind: Kind,
-    labels: &[u32],
+    survivors: &Survivors,
     values: &mut [u64],
 )
     requires one { AreOfOne tree.now attributes.now minima.now }
-    requires labels { labels.now ≡ survivors tree.now minima.now (values_of kind attributes.now) }
-    requires values { AreDeathsFrom tree.now minima.now (values_of kind attributes.now) labels.now (nodes tree.now) values.old }
-    ensures { AreDeathsFrom tree.now minima.now (values_of kind attributes.now) labels.now tree.now.leaves values.new }
+    requires survivors { AreSurvivors tree.now minima.now (values_of kind attributes.now) survivors.now.pairs.items survivors.now.labels.items }
+    requires values { AreRootsFrom tree.now minima.now (values_of kind attributes.now) survivors.now.labels.items 0 values.old }
+    ensures { AreDeathsFrom tree.now minima.now (values_of kind attributes.now) survivors.now.labels.items tree.now.leaves values.new }
 {
+    let _ = minima;
     for i in (tree.leaves()..tree.nodes()).rev() {
-        if let Some(child) = dying(tree, attributes, minima, kind, labels, i) {
-            values[labels[child as usize] as usize - 1] = kind.value(attributes, child);
+        let (a, b) = children(tree, &survivors.pairs, i);
+        if let Some(child) = dying(attributes, kind, &survivors.labels, a, b) {
+            let label = survivors.labels[child as usize];
+            values[label as usize - 1] = kind.value(attributes, child);
         }
     }
 }
 
-// The child that dies at inner node i, where both hold a minimum.
-fn dying(
-    tree: &Tree,
-    attributes: &Attributes,
-    minima: &Minima,
-    kind: Kind,
-    labels: &[u32],
-    i: u32,
-) -> Option<u32>
-    requires inner { tree.now.leaves ≤ i }
-    requires within { i < nodes tree.now }
-    requires one { AreOfOne tree.now attributes.now minima.now }
-    requires labels { labels.now ≡ survivors tree.now minima.now (values_of kind attributes.now) }
-    ensures dying { MatchOption result (both_hold tree.now minima.now i ≡ false)
-        (λ child. (both_hold tree.now minima.now i ≡ true) × (child ≡ dying tree.now (values_of kind attributes.now) labels.now i)) }
-    ensures within { IfSome result (λ child. child < i) }
-    ensures label { IfSome result (λ child. IsLabel minima.now.count (slice_index labels.now child)) }
+// Of the children a and b the one that dies, where both have a survivor.
+fn dying(attributes: &Attributes, kind: Kind, labels: &[u32], a: u32, b: u32) -> Option<u32>
+    requires nodes { length labels.now ≡ length attributes.now.areas }
+    requires first { a < length labels.now }
+    requires second { b < length labels.now }
+    ensures { result ≡ dying_after (values_of kind attributes.now) labels.now a b }
 {
-    let _ = minima;
-    let (a, b) = (tree.child(i, 0), tree.child(i, 1));
     if labels[a as usize] == 0 || labels[b as usize] == 0 {
         None
     } else if dies(attributes, kind, labels, a, b) {

@@ -2,14 +2,12 @@ ghost use Rattle.std.specs.Prelude.{◌≡◌, ◌↔◌, ℕ, ◌<◌, ◌≤�
 ghost use Rattle.hg_base.specs.Rank.{ranked};
 ghost use Rattle.hg_base.specs.Tree.{graph_tree};
 ghost use Rattle.hg_base.specs.Levels.{AltitudesRise, Shares};
-ghost use Rattle.partition_tree.specs.Forest.{IsForest};
-ghost use Rattle.partition_tree.specs.Ranked.{IsRankedList, edges_of};
+ghost use Rattle.partition_tree.specs.Ranked.{JoinsTwo, IsRankedList, edges_of};
 ghost use Rattle.attributes.specs.Attributes.{attributes_of};
 ghost use Rattle.watershed_cut.specs.MinimumLabels.{minima_of};
 ghost use Rattle.watershed_cut.specs.Watershed.{tree_label};
-ghost use Rattle.extinction.specs.Persistence.{persistences_of};
 ghost use Rattle.extinction.specs.Hierarchy.{hierarchy_of};
-ghost use Rattle.extinction.specs.Turns.{keys_of, AreTurns, IsRankedOf, IsListedBy};
+ghost use Rattle.extinction.specs.Turns.{AreSorted, AreTurns, ranked_of, IsListedBy};
 
 use crate::kind::Kind;
 use crate::persist::persistence;
@@ -56,7 +54,9 @@ fn listed(
     ensures ranked { IfOk result (λ list. IsRankedList graph.now.n list.items) }
     ensures edges { IfOk result (λ list. IsListedBy graph.now persistences.now (edges_of list.items)) }
 {
-    let turns = turns(alloc, persistences)?;
+    // That the graph has no more vertices than a tree may have leaves.
+    let _ = graph.n();
+    let turns = turns(alloc, tree, persistences)?;
     let mut list = Vec::with_capacity(alloc, turns.len())?;
     for turn in &turns {
         list.push(ranked(graph, tree, persistences, *turn))?;
@@ -64,38 +64,13 @@ fn listed(
     Ok(list)
 }
 
-// The places of the persistences in rising order, ties by place.
-fn turns(alloc: Global, persistences: &[u64]) -> Result<Vec<u32>, AllocError>
-    requires { length persistences.now ≤ 2097151 }
-    ensures { IfOk result (λ turns. AreTurns persistences.now turns.items) }
-{
-    let mut keys = keys(alloc, persistences)?;
-    keys.sort_unstable();
-    let mut turns = Vec::with_capacity(alloc, keys.len())?;
-    for (_, place) in &keys {
-        turns.push(*place)?;
-    }
-    Ok(turns)
-}
-
-// Each persistence and its place.
-fn keys(alloc: Global, persistences: &[u64]) -> Result<Vec<(u64, u32)>, AllocError>
-    requires { length persistences.now ≤ 2097151 }
-    ensures { IfOk result (λ keys. keys.items ≡ keys_of persistences.now) }
-{
-    let mut keys = Vec::with_capacity(alloc, persistences.len())?;
-    for (place, persistence) in persistences.iter().enumerate() {
-        keys.push((*persistence, place as u32))?;
-    }
-    Ok(keys)
-}
-
 // The edge that made the inner node of this place, with its persistence as altitude.
 fn ranked(graph: &Graph, tree: &Tree, persistences: &[u64], place: u32) -> Ranked
     requires tree { tree.now ≡ graph_tree graph.now }
     requires one_each { length persistences.now ≡ length tree.now.makers }
     requires within { place < length persistences.now }
-    ensures { IsRankedOf graph.now persistences.now place result }
+    ensures edge { result ≡ ranked_of graph.now persistences.now place }
+    ensures ends { JoinsTwo graph.now.n result }
 {
     let maker = tree.maker(tree.leaves() + place);
     let edge = graph.edge(maker);
@@ -105,4 +80,36 @@ fn ranked(graph: &Graph, tree: &Tree, persistences: &[u64], place: u32) -> Ranke
         edge: maker,
         altitude: persistences[place as usize],
     }
+}
+
+// The places of the persistences in rising order, ties by place.
+fn turns(alloc: Global, tree: &Tree, persistences: &[u64]) -> Result<Vec<u32>, AllocError>
+    requires { length persistences.now ≡ length tree.now.makers }
+    ensures { IfOk result (λ turns. AreTurns persistences.now turns.items) }
+{
+    let keys = sorted_keys(alloc, tree, persistences)?;
+    let mut turns = Vec::with_capacity(alloc, keys.len())?;
+    for (_, place) in &keys {
+        turns.push(*place)?;
+    }
+    Ok(turns)
+}
+
+// Each persistence and its place, in rising order.
+fn sorted_keys(
+    alloc: Global,
+    tree: &Tree,
+    persistences: &[u64],
+) -> Result<Vec<(u64, u32)>, AllocError>
+    requires { length persistences.now ≡ length tree.now.makers }
+    ensures { IfOk result (λ keys. AreSorted persistences.now keys.items) }
+{
+    // That there are no more nodes than a tree may have.
+    let _ = tree.nodes();
+    let mut keys = Vec::with_capacity(alloc, persistences.len())?;
+    for (place, persistence) in persistences.iter().enumerate() {
+        keys.push((*persistence, place as u32))?;
+    }
+    keys.sort_unstable();
+    Ok(keys)
 }

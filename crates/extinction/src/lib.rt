@@ -6,6 +6,7 @@ mod hierarchy;
 mod kind;
 mod laws;
 mod lowest;
+mod pairs;
 mod persist;
 mod report;
 mod survive;

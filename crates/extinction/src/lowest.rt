@@ -1,9 +1,8 @@
 ghost use Rattle.std.specs.Prelude.{◌≡◌, ◌<◌, ◌≤◌, length, IfOk};
 ghost use Rattle.partition_tree.specs.Forest.{nodes};
-ghost use Rattle.extinction.specs.Values.{AreOfOne, AreOfMinima};
+ghost use Rattle.extinction.specs.Values.{AreOfMinima};
 ghost use Rattle.extinction.specs.Passes.{node_label, AreLowest, AreOwnLabels};
 
-use attributes::Attributes;
 use partition_tree::Tree;
 use std::alloc::{AllocError, Global};
 use watershed_cut::Minima;
@@ -12,13 +11,11 @@ use watershed_cut::Minima;
 pub(crate) fn own_labels(
     alloc: Global,
     tree: &Tree,
-    attributes: &Attributes,
     minima: &Minima,
 ) -> Result<Vec<u32>, AllocError>
-    requires { AreOfOne tree.now attributes.now minima.now }
+    requires { AreOfMinima tree.now minima.now }
     ensures { IfOk result (λ own. AreOwnLabels tree.now minima.now own.items) }
 {
-    let _ = attributes;
     let lowest = lowest_nodes(alloc, tree, minima)?;
     let mut own = vec![in alloc; 0; tree.nodes() as usize]?;
     for label in 0..minima.count() {

@@ -1,12 +1,12 @@
 ghost use Rattle.std.specs.Prelude.{◌≡◌, ℕ, ◌<◌, ◌≤◌, length, IfOk};
 ghost use Rattle.hg_base.specs.Graph.{WeightedGraph};
-ghost use Rattle.partition_tree.specs.Forest.{nodes};
 ghost use Rattle.extinction.specs.Values.{values_of, AreOf, AreOfOne};
-ghost use Rattle.extinction.specs.Persistence.{persistence, persistences, persistences_of};
-ghost use Rattle.extinction.specs.Survivors.{survivors};
+ghost use Rattle.extinction.specs.Persistence.{persistences, persistences_of};
+ghost use Rattle.extinction.specs.Passes.{value_after};
 
 use crate::kind::Kind;
-use crate::survive::survivors;
+use crate::pairs::children;
+use crate::survive::Survivors;
 use attributes::Attributes;
 use hg_base::OutOfMemory;
 use partition_tree::Tree;
@@ -39,32 +39,23 @@ fn by_survivors(
     requires { AreOfOne tree.now attributes.now minima.now }
     ensures { IfOk result (λ values. values.items ≡ persistences tree.now minima.now (values_of kind attributes.now)) }
 {
-    let labels = survivors(alloc, tree, attributes, minima, kind)?;
+    let survivors = Survivors::of(alloc, tree, attributes, minima, kind)?;
     let (leaves, nodes) = (tree.leaves(), tree.nodes());
     let mut values = Vec::with_capacity(alloc, (nodes - leaves) as usize)?;
     for i in leaves..nodes {
-        values.push(value(tree, attributes, minima, kind, &labels, i))?;
+        let (a, b) = children(tree, &survivors.pairs, i);
+        values.push(value(attributes, kind, &survivors.labels, a, b))?;
     }
     Ok(values)
 }
 
-// The persistence of inner node i.
-fn value(
-    tree: &Tree,
-    attributes: &Attributes,
-    minima: &Minima,
-    kind: Kind,
-    labels: &[u32],
-    i: u32,
-) -> u64
-    requires inner { tree.now.leaves ≤ i }
-    requires within { i < nodes tree.now }
-    requires one { AreOfOne tree.now attributes.now minima.now }
-    requires labels { labels.now ≡ survivors tree.now minima.now (values_of kind attributes.now) }
-    ensures { result ≡ persistence tree.now minima.now (values_of kind attributes.now) i }
+// The persistence of a node whose children are a and b.
+fn value(attributes: &Attributes, kind: Kind, labels: &[u32], a: u32, b: u32) -> u64
+    requires nodes { length labels.now ≡ length attributes.now.areas }
+    requires first { a < length labels.now }
+    requires second { b < length labels.now }
+    ensures { result ≡ value_after (values_of kind attributes.now) labels.now a b }
 {
-    let _ = minima;
-    let (a, b) = (tree.child(i, 0), tree.child(i, 1));
     if labels[a as usize] == 0 || labels[b as usize] == 0 {
         return 0;
     }

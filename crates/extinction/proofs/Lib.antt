@@ -11,3 +11,4 @@ pub mod LevelZero
 pub mod PairLemmas
 pub mod OwnLemmas
 pub mod SurvivorPasses
+pub mod OneGraph

@@ -3,7 +3,7 @@ use Rattle.std.proofs.Common.{◌≡◌, ◌≢◌, ℕ, zero, suc, ◌+◌, ◌
 use Rattle.std.specs.Prelude.{◌↔◌, ◌==◌, ◌&&◌, ◌||◌, not, nat_lt, min, find, Option, Some, None}
 use Rattle.std.specs.Option.{option_map_or}
 use Rattle.std.specs.List.{range_with_len}
-use Rattle.std.proofs.lemmas.Bool.{cases_Bool, cases_eq, cases_lt, cases_order, both_ways, and_left, and_from, and_parts, eq-eqb, ne_eqb, eqb-true, cond-true, cond-false, false_from_ne_true, lt-ltb, true_from_ne_false}
+use Rattle.std.proofs.lemmas.Bool.{cases_Bool, cases_eq, cases_lt, cases_order, both_ways, and_left, and_from, and_parts, eq-eqb, ne_eqb, eqb-true, cond-true, cond-false, false_from_ne_true, lt-ltb, le-ltb, true_from_ne_false}
 use Rattle.std.proofs.lemmas.List.{get_or-set_same, get_or-set_other, length-set}
 use Rattle.std.proofs.lemmas.List.FromFn.{fill_by_all, get_or-map-range_with_len, length-map-range_with_len}
 use Rattle.hg_base.specs.Labels.{IsLabel}
@@ -32,7 +32,7 @@ lists-same (x ∷ xs) (y ∷ ys) long h =
 live-holds : (x : ℕ) (h : Bool) → (x ≡ 0) ↔ (h ≡ false) → not (x == 0) ≡ h
 live-holds zero true w = absurd (both_ways _ (w.0 refl) refl)
 live-holds zero false w = refl
-live-holds (suc x) true w = refl
+live-holds (suc x) true w = ap not (ne_eqb (suc x) 0 (λ e. omega arith))
 live-holds (suc x) false w = absurd (let e : suc x ≡ 0 = w.1 refl in omega arith)
 
 -- what is known at an inner node whose children are a and b
@@ -113,7 +113,7 @@ pub survivors-first : (t : ParentTree) (m : LabelledMinima) (values : List ℕ) 
 survivors-first t m values f i labels start own = record {
   one_each = own.one_each;
   done = λ j low hj.
-      let off : (k : ℕ) → child_holds t m j k ≡ false = λ k. and_left _ _ (ap (nat_lt k) (leaf-childless t f j (omega arith))) in
+      let off : (k : ℕ) → child_holds t m j k ≡ false = λ k. and_left _ _ (ap (nat_lt k) (leaf-childless t f j (omega arith)) ∙ le-ltb k 0 (omega arith)) in
       own.each j hj (off 0) (off 1) ∙ sym (survivor-own t m values f j hj (off 0) (off 1));
   own = λ j low hj p q. own.each j hj p q;
 }
@@ -256,6 +256,27 @@ deaths-all t m values labels noted f own a =
     let long : length (extinctions t m values) ≡ m.count = length-map-range_with_len (extinction_by t m values (survivors t m values)) 1 m.count in
     lists-same noted (extinctions t m values) (b.one_each ∙ sym long) (λ k low.
         let hk : k < m.count = (let e = b.one_each in omega arith) in
-        b.each k hk
+        b.each k hk ∙ whole k
         ∙ ap (λ (xs : List ℕ). extinction_by t m values xs (suc k)) own
         ∙ sym (get_or-map-range_with_len (extinction_by t m values (survivors t m values)) 1 m.count k (suc k) 0 hk (omega arith)))
+  where
+    -- the search over all nodes
+    whole : (k : ℕ) → death_value t m values labels 0 (suc k) ≡ extinction_by t m values labels (suc k)
+    whole k =
+        let e : length t.parents - 0 ≡ length t.parents = omega arith in
+        ap (λ (n : ℕ). option_map_or (λ j. get_or values (dying t values labels j) 0) (find (dies_at t m values labels (suc k)) (range_with_len 0 n))
+        (option_map_or (λ j. get_or values j 0) (find (lives_at t labels (suc k)) (range_with_len 0 n)) 0)) e
+
+-- what is known at an inner node by the pairs, where the survivors before it are known
+pub at-node : (t : ParentTree) (m : LabelledMinima) (values labels : List ℕ) (pairs slice : List (ℕ × ℕ)) (i a b : ℕ) → AreChildPairs t pairs → slice ≡ pairs → t.leaves ≤ i → i < length t.parents → a ≡ (pair_of t slice i).0 → b ≡ (pair_of t slice i).1 → a < i → b < i →
+    ((j : ℕ) → j < i → j < length t.parents → get_or labels j 0 ≡ survivor t m values j) → IsAtNode t m values labels i a b
+at-node t m values labels pairs slice i a b p same inner hi ea eb la lb done = record {
+  node = hi;
+  two = p.two i inner hi;
+  first = ea ∙ ap (λ (xs : List (ℕ × ℕ)). (pair_of t xs i).0) same ∙ p.first i inner hi;
+  second = eb ∙ ap (λ (xs : List (ℕ × ℕ)). (pair_of t xs i).1) same ∙ p.second i inner hi;
+  first_less = la;
+  second_less = lb;
+  first_label = done a la (omega arith);
+  second_label = done b lb (omega arith);
+}

@@ -1,7 +1,7 @@
 ghost use Rattle.std.specs.Prelude.{◌≡◌, ℕ, ◌<◌, length, replicate, IfOk};
 ghost use Rattle.hg_base.specs.Graph.{WeightedGraph};
 ghost use Rattle.extinction.specs.Values.{values_of, AreOf, AreOfOne};
-ghost use Rattle.extinction.specs.Survivors.{extinctions, extinctions_of};
+ghost use Rattle.extinction.specs.Survivors.{extinctions_of};
 ghost use Rattle.extinction.specs.Passes.{dying_after, AreSurvivors, AreRootsFrom, AreDeathsFrom};
 
 use crate::kind::Kind;
@@ -37,7 +37,7 @@ fn by_survivors(
     kind: Kind,
 ) -> Result<Vec<u64>, AllocError>
     requires { AreOfOne tree.now attributes.now minima.now }
-    ensures { IfOk result (λ values. values.items ≡ extinctions tree.now minima.now (values_of kind attributes.now)) }
+    ensures { IfOk result (λ values. (g : WeightedGraph) → AreOf g tree.now attributes.now minima.now → values.items ≡ extinctions_of g kind) }
 {
     let survivors = Survivors::of(alloc, tree, attributes, minima, kind)?;
     let mut values = vec![in alloc; 0; minima.count() as usize]?;

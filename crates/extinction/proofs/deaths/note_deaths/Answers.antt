@@ -1,0 +1,4 @@
+use Rattle.extinction.proofs.deaths.note_deaths.Goals as goal
+
+pub loop-i-preserved : goal.loop-i-preserved
+loop-i-preserved c = ?

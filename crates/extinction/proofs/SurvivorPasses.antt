@@ -1,9 +1,9 @@
 -- The passes that find survivors, persistences and extinctions.
-use Rattle.std.proofs.Common.{◌≡◌, ◌≢◌, ℕ, zero, suc, ◌+◌, ◌-◌, ◌<◌, ◌≤◌, Bool, true, false, cond, ◌⊎◌, inl, inr, refl, sym, ◌∙◌, ap, subst, arith, List, [], ◌∷◌, length, get_or, set, replicate, map}
+use Rattle.std.proofs.Common.{◌≡◌, ◌≢◌, ℕ, zero, suc, ◌+◌, ◌-◌, ◌<◌, ◌≤◌, Bool, true, false, cond, ◌⊎◌, inl, inr, refl, sym, ◌∙◌, ap, subst, arith, List, [], ◌∷◌, ◌++◌, length, get_or, set, replicate, map}
 use Rattle.std.specs.Prelude.{◌↔◌, ◌==◌, ◌&&◌, ◌||◌, not, nat_lt, min, find, Option, Some, None}
 use Rattle.std.specs.Option.{option_map_or}
 use Rattle.std.specs.List.{range_with_len}
-use Rattle.std.proofs.lemmas.Bool.{cases_Bool, cases_eq, cases_lt, cases_order, both_ways, and_left, and_from, and_parts, eq-eqb, ne_eqb, eqb-true, cond-true, cond-false, false_from_ne_true, lt-ltb, le-ltb, true_from_ne_false}
+use Rattle.std.proofs.lemmas.Bool.{cases_Bool, cases_eq, cases_lt, cases_order, both_ways, and_left, and_from, and_parts, not-true, eq-eqb, ne_eqb, eqb-true, cond-true, cond-false, false_from_ne_true, lt-ltb, le-ltb, true_from_ne_false}
 use Rattle.std.proofs.lemmas.List.{get_or-set_same, get_or-set_other, length-set}
 use Rattle.std.proofs.lemmas.List.FromFn.{fill_by_all, get_or-map-range_with_len, length-map-range_with_len}
 use Rattle.hg_base.specs.Labels.{IsLabel}
@@ -12,9 +12,10 @@ use Rattle.partition_tree.specs.Forest.{IsForest}
 use Rattle.partition_tree.specs.Children.{child_count}
 use Rattle.watershed_cut.specs.MinimumLabels.{LabelledMinima}
 use Rattle.extinction.specs.Holding.{holds, least_held, child, child_holds, both_hold}
-use Rattle.extinction.specs.Persistence.{persistence}
+use Rattle.extinction.specs.Persistence.{persistence, persistences}
 use Rattle.extinction.specs.Survivors.{dies, dying, survivor_after, table, survivors, survivor, dies_at, lives_at, extinction_by, extinctions}
-use Rattle.extinction.specs.Passes.{HasTwoEach, pair_of, AreChildPairs, AreOwnLabels, AreSurvivorsTo, both_live, label_after, value_after, dying_after, root_value, death_value, AreRootsFrom, AreDeathsFrom}
+use Rattle.extinction.specs.Passes.{HasTwoEach, pair_of, AreChildPairs, AreOwnLabels, AreSurvivorsTo, AreSurvivors, both_live, label_after, value_after, dying_after, root_value, death_value, AreRootsFrom, AreDeathsFrom}
+use Rattle.attributes.proofs.Rows.{values_more}
 use Rattle.extinction.proofs.SideLemmas.{leaf-childless}
 use Rattle.extinction.proofs.SurvivorLemmas.{outcome, table-length, survivor-outcome, survivor-own, survivor-zero, survivor-label}
 
@@ -280,3 +281,78 @@ at-node t m values labels pairs slice i a b p same inner hi ea eb la lb done = r
   first_label = done a la (omega arith);
   second_label = done b lb (omega arith);
 }
+
+-- how many survivors there are
+pub survivors-length : (t : ParentTree) (m : LabelledMinima) (values : List ℕ) (pairs : List (ℕ × ℕ)) (labels : List ℕ) → AreSurvivors t m values pairs labels → length labels ≡ length t.parents
+survivors-length t m values pairs labels s = ap (λ (xs : List ℕ). length xs) s.labels_are ∙ table-length (survivor_after t m values) (length t.parents)
+
+-- what is known at an inner node once all survivors are
+pub at-survivors : (t : ParentTree) (m : LabelledMinima) (values labels : List ℕ) (pairs slice : List (ℕ × ℕ)) (i a b : ℕ) → AreSurvivors t m values pairs labels → slice ≡ pairs → t.leaves ≤ i → i < length t.parents → a ≡ (pair_of t slice i).0 → b ≡ (pair_of t slice i).1 → a < i → b < i → IsAtNode t m values labels i a b
+at-survivors t m values labels pairs slice i a b s same inner hi ea eb la lb =
+    at-node t m values labels pairs slice i a b s.pairs_are same inner hi ea eb la lb (λ j low hj. ap (λ (xs : List ℕ). get_or xs j 0) s.labels_are)
+
+-- a survivor that isn't 0 is a label
+pub survivor-is_label : (t : ParentTree) (m : LabelledMinima) (values : List ℕ) (pairs : List (ℕ × ℕ)) (labels : List ℕ) → IsForest t → AreSurvivors t m values pairs labels → (i label : ℕ) → i < length t.parents → label ≡ get_or labels i 0 → label ≢ 0 → IsLabel m.count label
+survivor-is_label t m values pairs labels f s i label hi is some' =
+    let own : label ≡ survivor t m values i = is ∙ ap (λ (xs : List ℕ). get_or xs i 0) s.labels_are in
+    subst (IsLabel m.count) (sym own) (survivor-label t m values f i hi (true_from_ne_false (holds t m i) (λ off. some' (own ∙ (survivor-zero t m values f i hi).1 off))))
+
+-- one more persistence
+pub persist-more : (t : ParentTree) (m : LabelledMinima) (values labels items new : List ℕ) → IsForest t → (i a b v leaves : ℕ) → leaves ≡ t.leaves → t.leaves ≤ i → IsAtNode t m values labels i a b → v ≡ value_after values labels a b →
+    items ≡ map (λ k. persistence t m values (t.leaves + k)) (range_with_len 0 (i - leaves)) → new ≡ items ++ v ∷ [] → new ≡ map (λ k. persistence t m values (t.leaves + k)) (range_with_len 0 (i + 1 - leaves))
+persist-more t m values labels items new f i a b v leaves same inner node is so_far made =
+    let at : t.leaves + (i - leaves) ≡ i = omega arith in
+    let next' : (i - leaves) + 1 ≡ i + 1 - leaves = omega arith in
+    subst (λ (k : ℕ). new ≡ map (λ j. persistence t m values (t.leaves + j)) (range_with_len 0 k)) next'
+    (values_more (λ j. persistence t m values (t.leaves + j)) (i - leaves) v items new so_far (is ∙ value-after t m values labels f i a b node ∙ ap (persistence t m values) (sym at)) made)
+
+pub persist-all : (t : ParentTree) (m : LabelledMinima) (values items : List ℕ) → IsForest t → (i leaves : ℕ) → leaves ≡ t.leaves → i ≡ length t.parents → items ≡ map (λ k. persistence t m values (t.leaves + k)) (range_with_len 0 (i - leaves)) → items ≡ persistences t m values
+persist-all t m values items f i leaves same end so_far =
+    let long : i - leaves ≡ length t.makers = (let e = f.one_maker_each in omega arith) in
+    so_far ∙ ap (λ (n : ℕ). map (λ k. persistence t m values (t.leaves + k)) (range_with_len 0 n)) long
+
+-- a number read with itself in place of a default
+pub read-own : (xs : List ℕ) (k x : ℕ) → k < length xs → x ≡ get_or xs k x → x ≡ get_or xs k 0
+read-own [] k x low e = absurd (omega arith)
+read-own (y ∷ ys) zero x low e = e
+read-own (y ∷ ys) (suc k) x low e = read-own ys k x (omega arith) e
+
+-- which child dies, if one does
+some-apart : {x : ℕ} → Some x ≡ None → ⊥
+some-apart e = cc
+
+pub dying-none : (t : ParentTree) (m : LabelledMinima) (values labels : List ℕ) → IsForest t → (i a b : ℕ) → IsAtNode t m values labels i a b → dying_after values labels a b ≡ None → both_hold t m i ≡ false
+dying-none t m values labels f i a b n none' = false_from_ne_true (both_hold t m i) (λ both.
+    some-apart (sym (dying-after t m values labels f i a b n ∙ cond-true (both_hold t m i) _ _ both) ∙ none'))
+
+pub record IsDeath (t : ParentTree) (m : LabelledMinima) (values labels : List ℕ) (i c : ℕ) : Type 0 where
+  pub both : both_hold t m i ≡ true
+  pub child_is : c ≡ dying t values labels i
+  pub less : c < i
+  pub some_label : get_or labels c 0 ≢ 0
+
+none-apart : {x : ℕ} → None ≡ Some x → ⊥
+none-apart e = cc
+
+same-some : {x y : ℕ} → Some x ≡ Some y → x ≡ y
+same-some e = cc
+
+pub dying-some : (t : ParentTree) (m : LabelledMinima) (values labels : List ℕ) → IsForest t → (i a b c : ℕ) → IsAtNode t m values labels i a b → dying_after values labels a b ≡ Some c → IsDeath t m values labels i c
+dying-some t m values labels f i a b c n some' =
+    let both : both_hold t m i ≡ true = true_from_ne_false (both_hold t m i) (λ off. none-apart (sym (dying-after t m values labels f i a b n ∙ cond-false (both_hold t m i) _ _ off) ∙ some')) in
+    let live : both_live labels a b ≡ true = both-live t m values labels f i a b n ∙ both in
+    let parts = and_parts (not (get_or labels a 0 == 0)) (not (get_or labels b 0 == 0)) live in
+    let is : cond (dies values labels a b) a b ≡ c = same-some (sym (cond-true (both_live labels a b) (Some (cond (dies values labels a b) a b)) None live) ∙ some') in
+    record {
+      both = both;
+      child_is = same-some (sym some' ∙ dying-after t m values labels f i a b n ∙ cond-true (both_hold t m i) _ _ both);
+      less = subst (λ (z : ℕ). z < i) is (either (λ z. z < i) (dies values labels a b) n.first_less n.second_less);
+      some_label = subst (λ (z : ℕ). get_or labels z 0 ≢ 0) is (either (λ z. get_or labels z 0 ≢ 0) (dies values labels a b) (some-of parts.0) (some-of parts.1));
+    }
+  where
+    either : (P : ℕ → Type 0) (d : Bool) → P a → P b → P (cond d a b)
+    either P true x y = x
+    either P false x y = y
+
+    some-of : {x : ℕ} → not (x == 0) ≡ true → x ≢ 0
+    some-of {x} h e = both_ways _ (not-true _ h) (eq-eqb x 0 e)

@@ -12,3 +12,4 @@ pub mod PairLemmas
 pub mod OwnLemmas
 pub mod SurvivorPasses
 pub mod OneGraph
+pub mod HierarchyLemmas

@@ -242,7 +242,7 @@ deaths-more t m values labels noted new i c label v hi both dead is lab own made
     its = ap (λ (z : ℕ). get_or labels z 0) (sym dead) ∙ sym is
 
 -- at no leaf a label dies
-deaths-down : (t : ParentTree) (m : LabelledMinima) (values labels noted : List ℕ) → IsForest t → (i : ℕ) → i ≤ t.leaves → t.leaves ≤ length t.parents → AreDeathsFrom t m values labels i noted → AreDeathsFrom t m values labels 0 noted
+pub deaths-down : (t : ParentTree) (m : LabelledMinima) (values labels noted : List ℕ) → IsForest t → (i : ℕ) → i ≤ t.leaves → t.leaves ≤ length t.parents → AreDeathsFrom t m values labels i noted → AreDeathsFrom t m values labels 0 noted
 deaths-down t m values labels noted f zero low few a = a
 deaths-down t m values labels noted f (suc i) low few a =
     let off : child_holds t m i 0 ≡ false = and_left _ _ (ap (nat_lt 0) (leaf-childless t f i (omega arith))) in
@@ -250,10 +250,8 @@ deaths-down t m values labels noted f (suc i) low few a =
     deaths-down t m values labels noted f i (omega arith) few (deaths-same t m values labels noted i (omega arith) (and_left _ _ off) (subst (λ (k : ℕ). AreDeathsFrom t m values labels k noted) e a))
 
 -- so the values are the extinctions
-pub deaths-all : (t : ParentTree) (m : LabelledMinima) (values labels noted : List ℕ) → IsForest t → labels ≡ survivors t m values → AreDeathsFrom t m values labels t.leaves noted → noted ≡ extinctions t m values
-deaths-all t m values labels noted f own a =
-    let few = f.one_maker_each in
-    let b = deaths-down t m values labels noted f t.leaves (omega arith) (omega arith) a in
+pub deaths-all : (t : ParentTree) (m : LabelledMinima) (values labels noted : List ℕ) → labels ≡ survivors t m values → AreDeathsFrom t m values labels 0 noted → noted ≡ extinctions t m values
+deaths-all t m values labels noted own b =
     let long : length (extinctions t m values) ≡ m.count = length-map-range_with_len (extinction_by t m values (survivors t m values)) 1 m.count in
     lists-same noted (extinctions t m values) (b.one_each ∙ sym long) (λ k low.
         let hk : k < m.count = (let e = b.one_each in omega arith) in

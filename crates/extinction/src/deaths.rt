@@ -81,7 +81,7 @@ fn note_deaths(
     requires one { AreOfOne tree.now attributes.now minima.now }
     requires survivors { AreSurvivors tree.now minima.now (values_of kind attributes.now) survivors.now.pairs.items survivors.now.labels.items }
     requires values { AreRootsFrom tree.now minima.now (values_of kind attributes.now) survivors.now.labels.items 0 values.old }
-    ensures { AreDeathsFrom tree.now minima.now (values_of kind attributes.now) survivors.now.labels.items tree.now.leaves values.new }
+    ensures { AreDeathsFrom tree.now minima.now (values_of kind attributes.now) survivors.now.labels.items 0 values.new }
 {
     let _ = minima;
     for i in (tree.leaves()..tree.nodes()).rev() {

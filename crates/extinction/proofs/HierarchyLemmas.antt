@@ -1,10 +1,10 @@
 -- The sorted list of joining edges, and its tree.
-use Rattle.std.proofs.Common.{◌≡◌, ◌≢◌, ℕ, zero, suc, ◌+◌, ◌-◌, ◌<◌, ◌≤◌, inl, inr, refl, sym, ◌∙◌, ap, subst, arith, List, [], ◌∷◌, ◌++◌, length, get_or, map, All, take, replicate}
-use Rattle.std.specs.Prelude.{Option, Some, None, slice_get, IsPermutation}
+use Rattle.std.proofs.Common.{◌≡◌, ◌≢◌, ℕ, zero, suc, ◌+◌, ◌-◌, ◌<◌, ◌≤◌, inl, inr, refl, sym, ◌∙◌, ap, subst, arith, List, [], ◌∷◌, ◌++◌, length, get_or, map, All, replicate, append_assoc, length-append}
+use Rattle.std.specs.Prelude.{Option, Some, None, slice_get, IsPermutation, Result, Ok, Err, IfOk}
 use Rattle.std.specs.Option.{option_map_or}
 use Rattle.std.specs.List.{range_with_len}
-use Rattle.std.proofs.lemmas.List.{length-map, map-append, take_more}
-use Rattle.std.proofs.lemmas.List.FromFn.{get_or-map-range_with_len, length-map-range_with_len}
+use Rattle.std.proofs.lemmas.List.{length-map}
+use Rattle.std.proofs.lemmas.List.FromFn.{get_or-map-range_with_len, length-map-range_with_len, map-range_with_len_more}
 use Rattle.std.proofs.lemmas.Option.{get_or_from_slice_get}
 use Rattle.hg_base.specs.Graph.{WeightedGraph, IsGraph, first_end, second_end}
 use Rattle.hg_base.specs.Edges.{ListedEdge, EdgeList, IsIn, IsSameSet, AreApart, AreWithin, below, joins, next}
@@ -22,7 +22,7 @@ use Rattle.partition_tree.proofs.ListLemmas.{edges-placed, placed-edges, edges-a
 use Rattle.watershed_cut.proofs.NodeLabels.{IsMakerOf, maker-of}
 use Rattle.watershed_cut.proofs.Star.{in-map, map-in}
 use Rattle.extinction.specs.Hierarchy.{turn, by_persistence, hierarchy_edges}
-use Rattle.extinction.specs.Turns.{AreTurns, AreSorted, ranked_of, IsListedBy}
+use Rattle.extinction.specs.Turns.{AreTurns, AreSorted, ranked_of, IsListedBy, IsListOf}
 use Rattle.extinction.proofs.Turns.{weighed, weighed-length, weighed-weight, turn-below, turn-number, number-turn, number-below, turn-rises}
 use Rattle.extinction.proofs.ByPersistence.{place-low, hierarchy-apart}
 
@@ -173,7 +173,58 @@ listed-ranked g p turns list some' few small a made ends = record {
         mapped f (x ∷ xs) (suc k) d h = mapped f xs k d (omega arith)
 
 -- one more edge of the list
-pub listed-more : (g : WeightedGraph) (p turns : List ℕ) (list new : List Ranked) (k : ℕ) (e : Ranked) → k < length turns → list ≡ map (ranked_of g p) (take k turns) → new ≡ list ++ e ∷ [] → e ≡ ranked_of g p (get_or turns k 0) → new ≡ map (ranked_of g p) (take (k + 1) turns)
-listed-more g p turns list new k e hk so_far made is =
-    made ∙ ap (λ (xs : List Ranked). xs ++ e ∷ []) so_far ∙ ap (λ (x : Ranked). map (ranked_of g p) (take k turns) ++ x ∷ []) is
-    ∙ sym (ap (map (ranked_of g p)) (take_more turns k 0 hk) ∙ map-append (ranked_of g p) (take k turns) (get_or turns k 0 ∷ []))
+pub listed-more : (g : WeightedGraph) (p : List ℕ) (keys : List (ℕ × ℕ)) (list new : List Ranked) (k : ℕ) (e : Ranked) → list ≡ map (λ j. ranked_of g p (get_or keys j (0, 0)).1) (range_with_len 0 k) → new ≡ list ++ e ∷ [] → e ≡ ranked_of g p (get_or keys k (0, 0)).1 →
+    new ≡ map (λ j. ranked_of g p (get_or keys j (0, 0)).1) (range_with_len 0 (k + 1))
+listed-more g p keys list new k e so_far made is =
+    let f : ℕ → Ranked = λ j. ranked_of g p (get_or keys j (0, 0)).1 in
+    made ∙ ap (λ (xs : List Ranked). xs ++ e ∷ []) so_far ∙ ap (λ (x : Ranked). map f (range_with_len 0 k) ++ x ∷ []) is
+    ∙ sym (map-range_with_len_more f 0 k k (omega arith))
+
+-- the whole list
+pub listed-all : (g : WeightedGraph) (p : List ℕ) (keys : List (ℕ × ℕ)) (list : List Ranked) (k : ℕ) → 1 ≤ g.n → g.n ≤ 1048576 → length p ≤ 4194304 → length p ≡ length (joins (ranked g)) → AreSorted p keys → k ≡ length keys →
+    list ≡ map (λ j. ranked_of g p (get_or keys j (0, 0)).1) (range_with_len 0 k) → All (JoinsTwo g.n) list → IsListOf g p list
+listed-all g p keys list k some' few small long a end made ends =
+    let whole : list ≡ map (ranked_of g p) (map (λ (key : ℕ × ℕ). key.1) keys) = made ∙ ap (λ (n : ℕ). map (λ j. ranked_of g p (get_or keys j (0, 0)).1) (range_with_len 0 n)) end ∙ by_places keys in record {
+      ranked_list = listed-ranked g p (map (λ (key : ℕ × ℕ). key.1) keys) list some' few small a.turns whole ends;
+      edges = listed-same g p (map (λ (key : ℕ × ℕ). key.1) keys) list long a.turns whole;
+    }
+  where
+    from_place : (before rest : List (ℕ × ℕ)) (k : ℕ) → k ≡ length before → map (λ j. ranked_of g p (get_or (before ++ rest) j (0, 0)).1) (range_with_len k (length rest)) ≡ map (ranked_of g p) (map (λ (key : ℕ × ℕ). key.1) rest)
+    from_place before [] k at = refl
+    from_place before (x ∷ rest) k at =
+        let here : get_or (before ++ x ∷ rest) k (0, 0) ≡ x = read before x rest k at in
+        let later : map (λ j. ranked_of g p (get_or (before ++ x ∷ rest) j (0, 0)).1) (range_with_len (k + 1) (length rest)) ≡ map (ranked_of g p) (map (λ (key : ℕ × ℕ). key.1) rest) =
+        ap (λ (xs : List (ℕ × ℕ)). map (λ j. ranked_of g p (get_or xs j (0, 0)).1) (range_with_len (k + 1) (length rest))) (sym (append_assoc before (x ∷ []) rest))
+        ∙ from_place (before ++ x ∷ []) rest (k + 1) (omega (arith, length-append before (x ∷ []))) in
+        λ i. ranked_of g p (here i).1 ∷ later i
+      where
+        read : (before : List (ℕ × ℕ)) (x : ℕ × ℕ) (rest : List (ℕ × ℕ)) (k : ℕ) → k ≡ length before → get_or (before ++ x ∷ rest) k (0, 0) ≡ x
+        read [] x rest zero at = refl
+        read [] x rest (suc k) at = absurd (omega arith)
+        read (y ∷ before) x rest zero at = absurd (omega arith)
+        read (y ∷ before) x rest (suc k) at = read before x rest k (omega arith)
+
+    by_places : (xs : List (ℕ × ℕ)) → map (λ j. ranked_of g p (get_or xs j (0, 0)).1) (range_with_len 0 (length xs)) ≡ map (ranked_of g p) (map (λ (key : ℕ × ℕ). key.1) xs)
+    by_places xs = from_place [] xs 0 refl
+
+-- the place of a key is one of the list's
+pub key-within : (p : List ℕ) (keys : List (ℕ × ℕ)) (k : ℕ) → AreSorted p keys → k < length keys → (get_or keys k (0, 0)).1 < length p
+key-within p keys k a low =
+    subst (λ (z : ℕ). z < length p) (mapped keys k low) (a.turns.within k 0 (let e = length-map keys (λ (key : ℕ × ℕ). key.1) in omega (arith, e, low)))
+  where
+    mapped : (xs : List (ℕ × ℕ)) (k : ℕ) → k < length xs → get_or (map (λ (key : ℕ × ℕ). key.1) xs) k 0 ≡ (get_or xs k (0, 0)).1
+    mapped [] k h = absurd (omega arith)
+    mapped (x ∷ xs) zero h = refl
+    mapped (x ∷ xs) (suc k) h = mapped xs k (omega arith)
+
+-- one more key
+pub keys-next : (xs : List ℕ) (keys new : List (ℕ × ℕ)) (k v : ℕ) → keys ≡ map (key (weighed xs)) (range_with_len 0 k) → v ≡ get_or xs k 0 → new ≡ keys ++ ((v, k) ∷ []) → new ≡ map (key (weighed xs)) (range_with_len 0 (k + 1))
+keys-next xs keys new k v so_far is made =
+    made ∙ ap (λ (t : List (ℕ × ℕ)). t ++ (v, k) ∷ []) so_far
+    ∙ ap (λ (x : ℕ). map (key (weighed xs)) (range_with_len 0 k) ++ (x, k) ∷ []) (is ∙ sym (weighed-weight xs k))
+    ∙ sym (map-range_with_len_more (key (weighed xs)) 0 k k (omega arith))
+
+-- what holds of each result that is Ok
+pub told : {T E : Type 0} (r : Result T E) (P Q : T → Type 0) → ((v : T) → P v → Q v) → IfOk r P → IfOk r Q
+told (Ok v) P Q f p = f v p
+told (Err e) P Q f p = tt

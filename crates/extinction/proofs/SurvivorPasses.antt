@@ -254,10 +254,10 @@ pub deaths-all : (t : ParentTree) (m : LabelledMinima) (values labels noted : Li
 deaths-all t m values labels noted own b =
     let long : length (extinctions t m values) ≡ m.count = length-map-range_with_len (extinction_by t m values (survivors t m values)) 1 m.count in
     lists-same noted (extinctions t m values) (b.one_each ∙ sym long) (λ k low.
-        let hk : k < m.count = (let e = b.one_each in omega arith) in
-        b.each k hk ∙ whole k
-        ∙ ap (λ (xs : List ℕ). extinction_by t m values xs (suc k)) own
-        ∙ sym (get_or-map-range_with_len (extinction_by t m values (survivors t m values)) 1 m.count k (suc k) 0 hk (omega arith)))
+    let hk : k < m.count = (let e = b.one_each in omega arith) in
+    b.each k hk ∙ whole k
+    ∙ ap (λ (xs : List ℕ). extinction_by t m values xs (suc k)) own
+    ∙ sym (get_or-map-range_with_len (extinction_by t m values (survivors t m values)) 1 m.count k (suc k) 0 hk (omega arith)))
   where
     -- the search over all nodes
     whole : (k : ℕ) → death_value t m values labels 0 (suc k) ≡ extinction_by t m values labels (suc k)

@@ -1,5 +1,5 @@
 -- The bytes of the report of a hierarchical watershed.
-use Rattle.std.specs.Prelude.{ℕ, suc, List, [], ◌∷◌, ◌++◌, codes, length, slice_index}
+use Rattle.std.specs.Prelude.{ℕ, ◌+◌, List, [], ◌∷◌, ◌++◌, codes, length, slice_index}
 use Rattle.std.specs.List.{range_with_len, flat_map}
 use Rattle.hg_base.specs.Text.{line, headed_line}
 use Rattle.hg_base.specs.Tree.{ParentTree}
@@ -7,7 +7,7 @@ use Rattle.partition_tree.specs.Report.{tree_report}
 
 -- the line of the label that comes after k others: the label and its extinction
 abbrev pub extinction_line : List ℕ → ℕ → List ℕ
-extinction_line extinctions k = line (suc k ∷ slice_index extinctions k ∷ [])
+extinction_line extinctions k = line ((k + 1) ∷ slice_index extinctions k ∷ [])
 
 -- the line of the extinctions, and then one for each label
 abbrev pub extinction_lines : List ℕ → List ℕ

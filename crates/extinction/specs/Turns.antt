@@ -7,6 +7,7 @@ use Rattle.hg_base.specs.Rank.{ranked}
 use Rattle.hg_base.specs.Tree.{graph_tree}
 use Rattle.hg_base.specs.Zones.{maker}
 use Rattle.partition_tree.specs.declared.list.Ranked.{Ranked}
+use Rattle.partition_tree.specs.Ranked.{IsRankedList, edges_of}
 use Rattle.extinction.specs.Hierarchy.{turn, hierarchy_edges}
 
 -- each number and its place
@@ -37,3 +38,8 @@ IsListedBy g persistences s = IsSameSet s (hierarchy_edges (ranked g) persistenc
 pub record AreSorted (persistences : List ℕ) (keys : List (ℕ × ℕ)) : Type 0 where
   pub one_each : length keys ≡ length persistences
   pub turns : AreTurns persistences (map (λ (key : ℕ × ℕ). key.1) keys)
+
+-- a list of which a tree can be made: that of the joining edges by persistence
+pub record IsListOf (g : WeightedGraph) (persistences : List ℕ) (list : List Ranked) : Type 0 where
+  pub ranked_list : IsRankedList g.n list
+  pub edges : IsListedBy g persistences (edges_of list)

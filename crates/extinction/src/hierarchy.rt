@@ -2,12 +2,12 @@ ghost use Rattle.std.specs.Prelude.{◌≡◌, ◌↔◌, ℕ, ◌<◌, ◌≤�
 ghost use Rattle.hg_base.specs.Rank.{ranked};
 ghost use Rattle.hg_base.specs.Tree.{graph_tree};
 ghost use Rattle.hg_base.specs.Levels.{AltitudesRise, Shares};
-ghost use Rattle.partition_tree.specs.Ranked.{JoinsTwo, IsRankedList, edges_of};
+ghost use Rattle.partition_tree.specs.Ranked.{JoinsTwo};
 ghost use Rattle.attributes.specs.Attributes.{attributes_of};
 ghost use Rattle.watershed_cut.specs.MinimumLabels.{minima_of};
 ghost use Rattle.watershed_cut.specs.Watershed.{tree_label};
 ghost use Rattle.extinction.specs.Hierarchy.{hierarchy_of};
-ghost use Rattle.extinction.specs.Turns.{AreSorted, AreTurns, ranked_of, IsListedBy};
+ghost use Rattle.extinction.specs.Turns.{AreSorted, ranked_of, IsListOf};
 
 use crate::kind::Kind;
 use crate::persist::persistence;
@@ -37,12 +37,27 @@ pub fn hierarchical(
     ensures watershed { IfOk result (λ hierarchy. (x y : ℕ) → x < graph.now.n → y < graph.now.n →
         (Shares hierarchy 0 x y ↔ (tree_label graph.now.n (ranked graph.now) x ≡ tree_label graph.now.n (ranked graph.now) y))) }
 {
+    // That the graph keeps to what every graph does.
+    let n = graph.n();
     let persistences = persistence(alloc, tree, attributes, minima, kind)?;
-    let list = listed(alloc, graph, tree, &persistences).map_err(|_| OutOfMemory)?;
-    Tree::of_list(alloc, graph.n(), &list)
+    let list = list_by(alloc, graph, tree, &persistences)?;
+    Tree::of_list(alloc, n, &list)
 }
 
 // The joining edges by persistence, ties by rank.
+fn list_by(
+    alloc: Global,
+    graph: &Graph,
+    tree: &Tree,
+    persistences: &[u64],
+) -> Result<Vec<Ranked>, OutOfMemory>
+    requires tree { tree.now ≡ graph_tree graph.now }
+    requires one_each { length persistences.now ≡ length tree.now.makers }
+    ensures { IfOk result (λ list. IsListOf graph.now persistences.now list.items) }
+{
+    listed(alloc, graph, tree, persistences).map_err(|_| OutOfMemory)
+}
+
 fn listed(
     alloc: Global,
     graph: &Graph,
@@ -51,15 +66,32 @@ fn listed(
 ) -> Result<Vec<Ranked>, AllocError>
     requires tree { tree.now ≡ graph_tree graph.now }
     requires one_each { length persistences.now ≡ length tree.now.makers }
-    ensures ranked { IfOk result (λ list. IsRankedList graph.now.n list.items) }
-    ensures edges { IfOk result (λ list. IsListedBy graph.now persistences.now (edges_of list.items)) }
+    ensures { IfOk result (λ list. IsListOf graph.now persistences.now list.items) }
 {
-    // That the graph has no more vertices than a tree may have leaves.
+    let keys = sorted_keys(alloc, tree, persistences)?;
+    edges_by_keys(alloc, graph, tree, persistences, &keys)
+}
+
+// The edges that made the inner nodes at the places of the keys.
+fn edges_by_keys(
+    alloc: Global,
+    graph: &Graph,
+    tree: &Tree,
+    persistences: &[u64],
+    keys: &[(u64, u32)],
+) -> Result<Vec<Ranked>, AllocError>
+    requires tree { tree.now ≡ graph_tree graph.now }
+    requires one_each { length persistences.now ≡ length tree.now.makers }
+    requires keys { AreSorted persistences.now keys.now }
+    ensures { IfOk result (λ list. IsListOf graph.now persistences.now list.items) }
+{
+    // That there are no more vertices and nodes than a graph and its tree may have.
     let _ = graph.n();
-    let turns = turns(alloc, tree, persistences)?;
-    let mut list = Vec::with_capacity(alloc, turns.len())?;
-    for turn in &turns {
-        list.push(ranked(graph, tree, persistences, *turn))?;
+    let _ = tree.nodes();
+    let mut list = Vec::with_capacity(alloc, keys.len())?;
+    for k in 0..keys.len() {
+        let (_, place) = keys[k];
+        list.push(ranked(graph, tree, persistences, place))?;
     }
     Ok(list)
 }
@@ -72,6 +104,8 @@ fn ranked(graph: &Graph, tree: &Tree, persistences: &[u64], place: u32) -> Ranke
     ensures edge { result ≡ ranked_of graph.now persistences.now place }
     ensures ends { JoinsTwo graph.now.n result }
 {
+    // That there are no more nodes than a tree may have.
+    let _ = tree.nodes();
     let maker = tree.maker(tree.leaves() + place);
     let edge = graph.edge(maker);
     Ranked {
@@ -80,19 +114,6 @@ fn ranked(graph: &Graph, tree: &Tree, persistences: &[u64], place: u32) -> Ranke
         edge: maker,
         altitude: persistences[place as usize],
     }
-}
-
-// The places of the persistences in rising order, ties by place.
-fn turns(alloc: Global, tree: &Tree, persistences: &[u64]) -> Result<Vec<u32>, AllocError>
-    requires { length persistences.now ≡ length tree.now.makers }
-    ensures { IfOk result (λ turns. AreTurns persistences.now turns.items) }
-{
-    let keys = sorted_keys(alloc, tree, persistences)?;
-    let mut turns = Vec::with_capacity(alloc, keys.len())?;
-    for (_, place) in &keys {
-        turns.push(*place)?;
-    }
-    Ok(turns)
 }
 
 // Each persistence and its place, in rising order.

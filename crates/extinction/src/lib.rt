@@ -19,4 +19,7 @@ pub use laws::{
     survivors_live_on,
 };
 pub use persist::persistence;
-pub use report::write_hierarchical;
+pub use report::{hierarchical_pieces, write_hierarchical};
+
+#[cfg(test)]
+mod tests;

@@ -1,46 +1,33 @@
 -- The lowest node that holds a minimum: its vertices are those of the minimum.
-use Rattle.std.proofs.Common.{◌≡◌, ◌≢◌, ℕ, zero, suc, ◌+◌, ◌-◌, ◌<◌, ◌≤◌, Bool, true, false, ◌⊎◌, inl, inr, refl, sym, ◌∙◌, subst, ap, arith, List, [], length, get_or, map}
-use Rattle.std.specs.Prelude.{◌↔◌, ◌==◌, ◌&&◌, nat_le, Option, unwrap_or, slice_get}
-use Rattle.std.specs.List.{range_with_len}
-use Rattle.std.proofs.lemmas.Bool.{cases_Bool, cases_lt, cases_order, cases_eq, both_ways, and_parts, cond-true, cond-false, true_from_ne_false, false_from_ne_true}
-use Rattle.std.proofs.lemmas.List.FromFn.{get_or-map-range_with_len}
+use Rattle.std.proofs.Common.{◌≡◌, ◌≢◌, ℕ, suc, ◌-◌, ◌<◌, ◌≤◌, inl, inr, refl, sym, ◌∙◌, subst, ap, arith, [], length}
+use Rattle.std.specs.Prelude.{nat_le}
+use Rattle.std.proofs.lemmas.Bool.{cases_lt, cases_order, and_parts, cond-true, cond-false, true_from_ne_false}
 use Rattle.hg_base.specs.Graph.{WeightedGraph, IsGraph, first_end, second_end}
-use Rattle.hg_base.specs.Edges.{ListedEdge, EdgeList, IsIn, Joined, joined, below, joins, count_below, is_least}
+use Rattle.hg_base.specs.Edges.{ListedEdge, EdgeList, IsIn, Joined, below, joins, count_below, is_least}
 use Rattle.hg_base.specs.Labels.{IsLabel, least_of}
-use Rattle.hg_base.specs.Rank.{numbers, ranked, number_at, rank, listed}
+use Rattle.hg_base.specs.Rank.{ranked}
 use Rattle.hg_base.specs.Saliency.{at_most}
-use Rattle.hg_base.specs.Tree.{ParentTree, parent, altitude, ancestor, IsAbove, graph_tree, place}
-use Rattle.hg_base.specs.Levels.{IsTop}
-use Rattle.hg_base.specs.Zones.{maker}
-use Rattle.hg_base.proofs.Climbs.{above-on, above-either, above-within, above-same, above-rises, above-parent, ancestor-within}
+use Rattle.hg_base.specs.Tree.{ParentTree, parent, altitude, IsAbove, graph_tree}
+use Rattle.hg_base.proofs.Climbs.{above-on, above-either, above-within, above-same}
 use Rattle.hg_base.proofs.Counts.{is_least-to}
 use Rattle.hg_base.proofs.Drops.{holds}
-use Rattle.hg_base.proofs.FrontOnce.{leaf_or_made, ends-apart, below-ends}
+use Rattle.hg_base.proofs.FrontOnce.{ends-apart}
 use Rattle.hg_base.proofs.Fronts.{apart-one}
 use Rattle.hg_base.proofs.Leasts.{least_of-fresh}
 use Rattle.hg_base.proofs.Members.{IsIn-below, IsIn-kept}
-use Rattle.hg_base.proofs.Ranked.{ranked-at, edge-there, ends-within}
-use Rattle.hg_base.proofs.Ranks.{rank-number_at}
+use Rattle.hg_base.proofs.Ranked.{edge-there, ends-within}
 use Rattle.hg_base.proofs.Sets.{IsIn-joins_kept, joined-among}
 use Rattle.hg_base.proofs.Tops.{top_found, top-parent}
-use Rattle.hg_base.proofs.Walks.{joined-ends, IsSame-joined}
 use Rattle.partition_tree.proofs.ChildLemmas.{count-nth}
-use Rattle.watershed_cut.specs.Minima.{level, IsEnd, IsMinimumEdge, InMinimum, SameMinimum}
-use Rattle.watershed_cut.specs.MinimumTests.{is_minimum, minimum_edges, in_minimum, same_minimum, is_head, minimum_count, vertex_label, edge_label}
-use Rattle.watershed_cut.specs.MinimumLabels.{LabelledMinima, numbered, minima_of}
-use Rattle.watershed_cut.specs.Passes.{IsPlateau, HasTwoEnds}
-use Rattle.watershed_cut.proofs.ForestWalks.{label-zero}
-use Rattle.watershed_cut.proofs.KeyPasses.{top-one}
-use Rattle.watershed_cut.proofs.MinimumWalks.{minimum-to, minimum-from, minimum_edges-from, in_minimum-to, in_minimum-from, same_minimum-to, same_minimum-from, minimum-next, plateau-walk, level-to, stays}
-use Rattle.watershed_cut.proofs.NearLaws.{above-joined}
-use Rattle.watershed_cut.proofs.NodeLabels.{IsMakerOf, maker-of}
+use Rattle.watershed_cut.specs.Minima.{level, IsMinimumEdge, InMinimum}
+use Rattle.watershed_cut.specs.MinimumTests.{in_minimum, same_minimum, is_head, minimum_count, vertex_label}
+use Rattle.watershed_cut.specs.Passes.{IsPlateau}
+use Rattle.watershed_cut.proofs.MinimumWalks.{in_minimum-to, in_minimum-from, same_minimum-to, same_minimum-from, minimum-next, plateau-walk, level-to, stays}
 use Rattle.watershed_cut.proofs.PlateauKeys.{same-plateau}
 use Rattle.watershed_cut.proofs.PlateauLaws.{IsLevelled, top-below, leaf-node, minimum-leaf}
 use Rattle.watershed_cut.proofs.Quiet.{quiet-walk}
-use Rattle.watershed_cut.proofs.TreeLabels.{same-self, same-back, label-equal, label-same, label-range}
+use Rattle.watershed_cut.proofs.TreeLabels.{same-self, label-equal, label-same, label-range}
 use Rattle.watershed_cut.proofs.LabelLemmas.{graph-levelled}
-use Rattle.extinction.specs.Holding.{HoldsMinimum}
-use Rattle.extinction.specs.Passes.{node_label, IsLast}
 use Rattle.extinction.proofs.TreeFacts.{IsOfGraph, of-graph}
 
 -- the tree of a graph tells who is joined at each level

@@ -1,5 +1,5 @@
 -- The list of joining edges by persistence: different ranks, weights that don't fall, and the same joining edges.
-use Rattle.std.proofs.Common.{◌≡◌, ℕ, zero, suc, ◌+◌, ◌<◌, ◌≤◌, inl, inr, refl, sym, ◌∙◌, ap, subst, arith, List, [], ◌∷◌, length, get_or, map}
+use Rattle.std.proofs.Common.{◌≡◌, ℕ, ◌<◌, inl, inr, refl, sym, ◌∙◌, ap, subst, arith, List, [], ◌∷◌, length, get_or, map}
 use Rattle.std.proofs.lemmas.Option.{slice_get_within}
 use Rattle.hg_base.specs.Edges.{ListedEdge, EdgeList, IsIn, AreApart, AreWithin, joins}
 use Rattle.hg_base.specs.Saliency.{AreByWeight}
@@ -7,7 +7,7 @@ use Rattle.hg_base.specs.Tree.{place}
 use Rattle.hg_base.proofs.Members.{IsRising}
 use Rattle.hg_base.proofs.Nodes.{joins-at, place-one}
 use Rattle.hg_base.proofs.Sets.{IsRising-joins, IsIn-joins_kept}
-use Rattle.watershed_cut.proofs.Star.{in-map, map-in}
+use Rattle.watershed_cut.proofs.Star.{in-map}
 use Rattle.extinction.specs.Hierarchy.{turn, by_persistence, hierarchy_edges}
 use Rattle.extinction.proofs.Turns.{turn-one, turn-rises}
 

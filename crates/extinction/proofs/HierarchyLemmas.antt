@@ -1,16 +1,15 @@
 -- The sorted list of joining edges, and its tree.
-use Rattle.std.proofs.Common.{◌≡◌, ◌≢◌, ℕ, zero, suc, ◌+◌, ◌-◌, ◌<◌, ◌≤◌, inl, inr, refl, sym, ◌∙◌, ap, subst, arith, List, [], ◌∷◌, ◌++◌, length, get_or, map, All, replicate, append_assoc, length-append}
+use Rattle.std.proofs.Common.{◌≡◌, ℕ, zero, suc, ◌+◌, ◌<◌, ◌≤◌, refl, sym, ◌∙◌, ap, subst, arith, List, [], ◌∷◌, ◌++◌, length, get_or, map, All, replicate, append_assoc, length-append}
 use Rattle.std.specs.Prelude.{Option, Some, None, slice_get, IsPermutation, Result, Ok, Err, IfOk}
 use Rattle.std.specs.Option.{option_map_or}
 use Rattle.std.specs.List.{range_with_len}
 use Rattle.std.proofs.lemmas.List.{length-map}
 use Rattle.std.proofs.lemmas.List.FromFn.{get_or-map-range_with_len, length-map-range_with_len, map-range_with_len_more}
 use Rattle.std.proofs.lemmas.Option.{get_or_from_slice_get}
-use Rattle.hg_base.specs.Graph.{WeightedGraph, IsGraph, first_end, second_end}
-use Rattle.hg_base.specs.Edges.{ListedEdge, EdgeList, IsIn, IsSameSet, AreApart, AreWithin, below, joins, next}
-use Rattle.hg_base.specs.Rank.{ranked, numbers, number_at}
-use Rattle.hg_base.specs.Tree.{ParentTree, place, node_or, tree_of, graph_tree}
-use Rattle.hg_base.specs.Zones.{maker}
+use Rattle.hg_base.specs.Graph.{WeightedGraph}
+use Rattle.hg_base.specs.Edges.{ListedEdge, EdgeList, IsIn, IsSameSet, AreApart, below, joins, next}
+use Rattle.hg_base.specs.Rank.{ranked, number_at}
+use Rattle.hg_base.specs.Tree.{place, node_or, tree_of}
 use Rattle.hg_base.proofs.Leasts.{map-agree}
 use Rattle.hg_base.proofs.Nodes.{slice_get-some, slice_get-mapped, joins-index}
 use Rattle.hg_base.proofs.Ranked.{AreApart-ranked}
@@ -18,13 +17,13 @@ use Rattle.hg_base.proofs.Sets.{joins-same, next-same}
 use Rattle.edge_order.specs.Tables.{key, sorted_keys_of}
 use Rattle.partition_tree.specs.declared.list.Ranked.{Ranked}
 use Rattle.partition_tree.specs.Ranked.{JoinsTwo, IsRankedList, edge_at, edges_of}
-use Rattle.partition_tree.proofs.ListLemmas.{edges-placed, placed-edges, edges-apart}
+use Rattle.partition_tree.proofs.ListLemmas.{edges-placed, placed-edges}
 use Rattle.watershed_cut.proofs.NodeLabels.{IsMakerOf, maker-of}
 use Rattle.watershed_cut.proofs.Star.{in-map, map-in}
 use Rattle.extinction.specs.Hierarchy.{turn, by_persistence, hierarchy_edges}
 use Rattle.extinction.specs.Turns.{AreTurns, AreSorted, ranked_of, IsListedBy, IsListOf}
 use Rattle.extinction.proofs.Turns.{weighed, weighed-length, weighed-weight, turn-below, turn-number, number-turn, number-below, turn-rises}
-use Rattle.extinction.proofs.ByPersistence.{place-low, hierarchy-apart}
+use Rattle.extinction.proofs.ByPersistence.{place-low}
 
 -- the tree of a list depends on the set of its edges alone
 pub tree-same : (n : ℕ) (s r : EdgeList) → AreApart s → AreApart r → IsSameSet s r → tree_of n s ≡ tree_of n r

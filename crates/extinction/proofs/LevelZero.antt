@@ -1,28 +1,26 @@
 -- Level 0 of the hierarchical watershed: the joining edges of persistence 0 join what the trees join.
-use Rattle.std.proofs.Common.{◌≡◌, ◌≢◌, ℕ, zero, suc, ◌+◌, ◌<◌, ◌≤◌, Bool, true, false, ◌⊎◌, inl, inr, refl, sym, ◌∙◌, ap, subst, arith, List, [], ◌∷◌, length, get_or, map}
-use Rattle.std.specs.Prelude.{◌↔◌, ◌&&◌, not, min, nat_le, nat_lt, filter}
-use Rattle.std.proofs.lemmas.Bool.{cases_Bool, cases_lt, cases_order, both_ways, and_parts, and_from, and_left, and_right, not-true, not_from_false, true_from_ne_false, false_from_ne_true, cond-true, cond-false, lt-ltb}
+use Rattle.std.proofs.Common.{◌≡◌, ℕ, zero, suc, ◌+◌, ◌<◌, ◌≤◌, Bool, true, false, ◌⊎◌, inl, inr, refl, sym, ◌∙◌, ap, subst, arith, List, [], ◌∷◌, length, get_or}
+use Rattle.std.specs.Prelude.{◌↔◌, ◌&&◌, not, min, nat_lt, filter}
+use Rattle.std.proofs.lemmas.Bool.{cases_Bool, both_ways, and_parts, and_from, and_left, and_right, not-true, not_from_false, true_from_ne_false, false_from_ne_true, cond-true, cond-false, lt-ltb}
 use Rattle.std.proofs.lemmas.List.FromFn.{get_or-map-range_with_len, length-map-range_with_len}
 use Rattle.std.proofs.lemmas.List.{length-map}
 use Rattle.hg_base.specs.Graph.{WeightedGraph, IsGraph}
-use Rattle.hg_base.specs.Edges.{ListedEdge, EdgeList, IsIn, AreApart, AreWithin, IsWalk, Joined, joined, below, is_joining, joins}
+use Rattle.hg_base.specs.Edges.{ListedEdge, EdgeList, IsIn, AreApart, AreWithin, IsWalk, joined, below, is_joining, joins}
 use Rattle.hg_base.specs.Labels.{IsLabel}
 use Rattle.hg_base.specs.Rank.{ranked}
 use Rattle.hg_base.specs.Saliency.{at_most, AreByWeight}
-use Rattle.hg_base.specs.Tree.{ParentTree, parent, altitude, IsAbove, graph_tree, tree_of, place}
-use Rattle.hg_base.specs.Levels.{IsClimbing, AltitudesRise, Shares}
-use Rattle.hg_base.proofs.Climbs.{above-on, above-next, above-either, above-rises, above-parent, above-within}
+use Rattle.hg_base.specs.Tree.{ParentTree, altitude, IsAbove, graph_tree, place}
+use Rattle.hg_base.specs.Levels.{AltitudesRise, Shares}
+use Rattle.hg_base.proofs.Climbs.{above-on, above-next, above-either, above-rises, above-parent}
 use Rattle.hg_base.proofs.Components.{IsIn-append, IsIn-append_back}
 use Rattle.hg_base.proofs.Drops.{holds}
-use Rattle.hg_base.proofs.FrontOnce.{below-ends, ends-apart}
-use Rattle.hg_base.proofs.Fronts.{apart-one}
+use Rattle.hg_base.proofs.FrontOnce.{below-ends}
 use Rattle.hg_base.proofs.Levels.{level-tree}
 use Rattle.hg_base.proofs.Ranked.{AreApart-ranked}
 use Rattle.hg_base.proofs.Members.{IsIn-filter, IsIn-kept, IsIn-below_kept}
 use Rattle.hg_base.proofs.Sets.{IsIn-joins, IsIn-joins_kept}
 use Rattle.hg_base.proofs.TreeNodes.{made-within}
 use Rattle.hg_base.proofs.Walks.{IsSame-joined, joined-ends, Joined-joined}
-use Rattle.hg_base.proofs.Link.{IsSame}
 use Rattle.hg_base.proofs.ZoneLevels.{shares-joined}
 use Rattle.partition_tree.specs.Forest.{IsForest}
 use Rattle.partition_tree.specs.Children.{child_count}
@@ -35,20 +33,20 @@ use Rattle.watershed_cut.specs.Forest.{reaches, is_forest, trees}
 use Rattle.watershed_cut.specs.Watershed.{tree_label}
 use Rattle.watershed_cut.proofs.ForestWalks.{reaches-to, reaches-from}
 use Rattle.watershed_cut.proofs.Hits.{joined_into}
-use Rattle.watershed_cut.proofs.MinimumWalks.{minimum-to, minimum-from, minimum_edges-from, minimum_edges-to, minimum-next, in_minimum-from, step-first, step-second, joined-own}
+use Rattle.watershed_cut.proofs.MinimumWalks.{minimum-to, minimum-from, minimum_edges-to, minimum-next, in_minimum-from, step-first, step-second}
 use Rattle.watershed_cut.proofs.Quiet.{at_most-to, at_most-from}
 use Rattle.watershed_cut.proofs.Star.{in-map, map-in}
 use Rattle.watershed_cut.proofs.TreeLabels.{label-range, tree-label_same}
 use Rattle.extinction.specs.Values.{graph_values}
-use Rattle.extinction.specs.Holding.{HoldsMinimum, holds as holding, child, child_holds, both_hold}
+use Rattle.extinction.specs.Holding.{holds as holding, child, child_holds, both_hold}
 use Rattle.extinction.specs.Persistence.{persistence, persistences_of}
 use Rattle.extinction.specs.Hierarchy.{by_persistence, hierarchy_edges, hierarchy_of}
 use Rattle.extinction.specs.declared.kind.Kind.{Kind}
 use Rattle.extinction.proofs.SideLemmas.{IsSide, AreSides, AreChildrenOf}
-use Rattle.extinction.proofs.TreeFacts.{IsOfGraph, of-graph, graph-children}
+use Rattle.extinction.proofs.TreeFacts.{of-graph, graph-children}
 use Rattle.extinction.proofs.HoldLemmas.{holds-from, holds-to}
 use Rattle.extinction.proofs.Bottoms.{IsBottom, bottom-of, bottom-label, bottom-same, over-bottom, bottom-over, inside-minimum, labelled-member}
-use Rattle.extinction.proofs.NodeLabels.{vertex-read, ends-labelled, made-label, bottom-last, bottom-labelled}
+use Rattle.extinction.proofs.NodeLabels.{vertex-read, made-label, bottom-last}
 use Rattle.extinction.proofs.Worth.{floor-under, worth-some}
 use Rattle.extinction.proofs.ByPersistence.{place-low, hierarchy-apart, hierarchy-within, hierarchy-by_weight}
 

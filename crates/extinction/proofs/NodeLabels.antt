@@ -1,30 +1,28 @@
 -- The last node that an edge of a minimum made is the lowest one that holds it.
-use Rattle.std.proofs.Common.{◌≡◌, ◌≢◌, ℕ, zero, suc, ◌+◌, ◌-◌, ◌<◌, ◌≤◌, Bool, true, false, ◌⊎◌, inl, inr, refl, sym, ◌∙◌, subst, ap, arith, length, get_or}
+use Rattle.std.proofs.Common.{◌≡◌, ℕ, ◌+◌, ◌<◌, ◌≤◌, true, inl, inr, refl, sym, ◌∙◌, subst, ap, arith, length, get_or}
 use Rattle.std.specs.Prelude.{nat_lt}
-use Rattle.std.proofs.lemmas.Bool.{cases_Bool, cases_lt, cases_order, both_ways, true_from_ne_false, cond-true, cond-false, lt-ltb, le-ltb}
+use Rattle.std.proofs.lemmas.Bool.{cases_Bool, cases_lt, true_from_ne_false, cond-true, cond-false, lt-ltb, le-ltb}
 use Rattle.std.proofs.lemmas.List.FromFn.{get_or-map-range_with_len}
 use Rattle.hg_base.specs.Graph.{WeightedGraph, IsGraph}
 use Rattle.hg_base.specs.Edges.{ListedEdge, IsIn, joins}
 use Rattle.hg_base.specs.Labels.{IsLabel}
 use Rattle.hg_base.specs.Rank.{ranked}
 use Rattle.hg_base.specs.Tree.{IsAbove, graph_tree, place}
-use Rattle.hg_base.specs.Zones.{maker}
 use Rattle.hg_base.proofs.Climbs.{above-rises}
 use Rattle.hg_base.proofs.FrontOnce.{leaf_or_made, ends-apart, below-ends}
 use Rattle.hg_base.proofs.Sets.{IsIn-joins_kept}
-use Rattle.hg_base.proofs.TreeNodes.{made-within}
 use Rattle.hg_base.proofs.Walks.{joined-ends, Joined-joined}
 use Rattle.watershed_cut.specs.MinimumTests.{is_minimum, in_minimum, minimum_count, vertex_label, edge_label}
-use Rattle.watershed_cut.specs.MinimumLabels.{LabelledMinima, numbered, minima_of}
+use Rattle.watershed_cut.specs.MinimumLabels.{numbered, minima_of}
 use Rattle.watershed_cut.proofs.GraphForest.{ranked-numbered}
-use Rattle.watershed_cut.proofs.MinimumWalks.{level-from, minimum-to, minimum-from, minimum_edges-from, same_minimum-from, in_minimum-from}
+use Rattle.watershed_cut.proofs.MinimumWalks.{level-from, minimum-to, minimum-from, same_minimum-from}
 use Rattle.watershed_cut.proofs.NearLaws.{above-joined}
-use Rattle.watershed_cut.proofs.NodeLabels.{IsMakerOf, maker-of}
+use Rattle.watershed_cut.proofs.NodeLabels.{maker-of}
 use Rattle.watershed_cut.proofs.TreeLabels.{label-equal, label-range}
-use Rattle.watershed_cut.specs.Minima.{level, InMinimum, IsMinimumEdge}
+use Rattle.watershed_cut.specs.Minima.{level, IsMinimumEdge}
 use Rattle.extinction.specs.Passes.{node_label, IsLast}
-use Rattle.extinction.proofs.TreeFacts.{IsOfGraph, of-graph}
-use Rattle.extinction.proofs.Bottoms.{IsBottom, bottom-label, inside-minimum, labelled-member}
+use Rattle.extinction.proofs.TreeFacts.{of-graph}
+use Rattle.extinction.proofs.Bottoms.{IsBottom, bottom-label, inside-minimum}
 
 -- the label of a vertex is read from the list
 pub vertex-read : (g : WeightedGraph) (x : ℕ) → x < g.n → get_or (minima_of g).vertices x 0 ≡ vertex_label g.n (ranked g) x

@@ -1,11 +1,11 @@
 -- What a tree, attributes and minima of one graph keep to.
-use Rattle.std.proofs.Common.{◌≡◌, ℕ, ◌<◌, ◌≤◌, sym, ◌∙◌, ap, subst, arith, List, length, get_or}
+use Rattle.std.proofs.Common.{◌≡◌, sym, ◌∙◌, ap, subst, length}
 use Rattle.std.proofs.lemmas.List.FromFn.{length-map-range_with_len}
 use Rattle.hg_base.specs.Graph.{WeightedGraph}
 use Rattle.hg_base.specs.Tree.{ParentTree, graph_tree}
 use Rattle.attributes.specs.Attributes.{AttributeLists, area_of, vertices}
 use Rattle.watershed_cut.specs.MinimumLabels.{LabelledMinima, minima_of}
-use Rattle.extinction.specs.Values.{values_of, graph_values, AreOf, AreOfOne}
+use Rattle.extinction.specs.Values.{values_of, AreOf, AreOfOne}
 use Rattle.extinction.specs.Persistence.{persistences, persistences_of}
 use Rattle.extinction.specs.Survivors.{extinctions, extinctions_of}
 use Rattle.extinction.specs.Passes.{HasTwoEach}

@@ -1,28 +1,26 @@
 -- The passes that find the lowest nodes that hold minima, and what each node holds of its own.
-use Rattle.std.proofs.Common.{◌≡◌, ◌≢◌, ℕ, zero, suc, ◌+◌, ◌-◌, ◌<◌, ◌≤◌, Bool, true, false, ◌⊎◌, inl, inr, refl, sym, ◌∙◌, ap, subst, arith, List, [], ◌∷◌, length, get_or, set, replicate}
+use Rattle.std.proofs.Common.{◌≡◌, ◌≢◌, ℕ, zero, suc, ◌+◌, ◌-◌, ◌<◌, ◌≤◌, Bool, true, false, ◌⊎◌, inl, inr, refl, sym, ◌∙◌, ap, subst, arith, List, length, get_or, set, replicate}
 use Rattle.std.specs.Prelude.{find, unwrap_or, Option, Some}
-use Rattle.std.proofs.lemmas.Bool.{cases_Bool, cases_eq, cases_lt, cases_order, both_ways, false_from_ne_true}
+use Rattle.std.proofs.lemmas.Bool.{cases_eq, both_ways, false_from_ne_true}
 use Rattle.std.proofs.lemmas.List.{get_or-set_same, get_or-set_other, length-set, length-replicate}
 use Rattle.hg_base.specs.Graph.{WeightedGraph, IsGraph}
 use Rattle.hg_base.specs.Edges.{count_below}
 use Rattle.hg_base.specs.Labels.{IsLabel}
 use Rattle.hg_base.specs.Rank.{ranked}
 use Rattle.hg_base.specs.Tree.{ParentTree, parent, ancestor, IsAbove, graph_tree}
-use Rattle.hg_base.specs.Levels.{IsClimbing}
-use Rattle.hg_base.proofs.Climbs.{ancestor-within, above-within}
+use Rattle.hg_base.proofs.Climbs.{above-within}
 use Rattle.partition_tree.specs.Children.{is_child, child_count, IsChildAt}
-use Rattle.partition_tree.specs.Forest.{IsForest}
 use Rattle.partition_tree.proofs.ChildLemmas.{child-is, count-less}
 use Rattle.watershed_cut.specs.MinimumLabels.{LabelledMinima, minima_of}
 use Rattle.watershed_cut.specs.MinimumTests.{minimum_count}
 use Rattle.extinction.specs.Values.{AreOfMinima}
-use Rattle.extinction.specs.Holding.{HoldsMinimum, holds_minimum, holds, least_held, child, child_holds}
-use Rattle.extinction.specs.Passes.{node_label, IsLast, AreLowest, AreOwnLabels}
-use Rattle.extinction.proofs.SideLemmas.{find-only, child-found}
+use Rattle.extinction.specs.Holding.{holds_minimum, holds, child_holds}
+use Rattle.extinction.specs.Passes.{node_label, AreLowest, AreOwnLabels}
+use Rattle.extinction.proofs.SideLemmas.{child-found}
 use Rattle.extinction.proofs.TreeFacts.{IsOfGraph, of-graph, inner-two}
-use Rattle.extinction.proofs.HoldLemmas.{holds_minimum-from, holds_minimum-to, in-label, find-none, found-in, child_holds-from}
-use Rattle.extinction.proofs.Bottoms.{IsBottom, bottom-label, bottom-one, bottom-same, over-bottom, bottom-over}
-use Rattle.extinction.proofs.NodeLabels.{vertex-read, node_label-most, bottom-labelled, last-bottom}
+use Rattle.extinction.proofs.HoldLemmas.{holds_minimum-from, holds_minimum-to, find-none, found-in, child_holds-from}
+use Rattle.extinction.proofs.Bottoms.{IsBottom, bottom-label, bottom-one, bottom-same, over-bottom}
+use Rattle.extinction.proofs.NodeLabels.{vertex-read, bottom-labelled, last-bottom}
 use Rattle.extinction.proofs.LevelZero.{bottom-holds}
 use Rattle.watershed_cut.proofs.AnyIn.{range-to}
 use Rattle.hg_base.proofs.Leasts.{first_of}

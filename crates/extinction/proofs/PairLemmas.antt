@@ -1,14 +1,13 @@
 -- The pass that finds the two children of each inner node.
-use Rattle.std.proofs.Common.{◌≡◌, ◌≢◌, ℕ, zero, suc, ◌+◌, ◌-◌, ◌<◌, ◌≤◌, Bool, true, false, inl, inr, refl, sym, ◌∙◌, ap, subst, arith, List, [], ◌∷◌, ◌++◌, length, get_or, set, take, add-one}
+use Rattle.std.proofs.Common.{◌≡◌, ◌≢◌, ℕ, ◌+◌, ◌-◌, ◌<◌, ◌≤◌, true, inl, inr, sym, ◌∙◌, ap, subst, arith, List, ◌++◌, length, get_or, set, take, add-one}
 use Rattle.std.proofs.Math.Seq.{take-append_seam}
 use Rattle.std.proofs.lemmas.Bool.{cases_eq}
-use Rattle.std.proofs.lemmas.List.{get_or-set_same, get_or-set_other, length-set, length-replicate}
+use Rattle.std.proofs.lemmas.List.{get_or-set_same, get_or-set_other, length-set}
 use Rattle.hg_base.specs.Edges.{count_below}
 use Rattle.hg_base.specs.Tree.{ParentTree, parent}
-use Rattle.hg_base.proofs.CountMore.{count_below-step}
 use Rattle.partition_tree.specs.Forest.{IsForest}
-use Rattle.partition_tree.specs.Children.{is_child, child_count, IsChildAt}
-use Rattle.partition_tree.proofs.ChildLemmas.{count-same, child-is, child-not, child-root, child-parent, child-other, child-counted, child-uncounted}
+use Rattle.partition_tree.specs.Children.{is_child, IsChildAt}
+use Rattle.partition_tree.proofs.ChildLemmas.{count-same, child-is, child-root, child-parent, child-other, child-counted, child-uncounted}
 use Rattle.extinction.specs.Holding.{child}
 use Rattle.extinction.specs.Passes.{HasTwoEach, pair_of, AreChildPairs}
 use Rattle.extinction.proofs.HoldLemmas.{child-there}

@@ -1,10 +1,10 @@
 -- The two children of an inner node: the components that its edge joins.
 use Rattle.std.proofs.Common.{◌≡◌, ℕ, suc, ◌+◌, ◌<◌, ◌≤◌, Bool, true, false, ◌⊎◌, inl, inr, refl, sym, ◌∙◌, subst, ap, arith, length}
-use Rattle.std.specs.Prelude.{◌↔◌, ◌==◌, ◌&&◌, not, Option, Some, None, find, unwrap_or}
+use Rattle.std.specs.Prelude.{◌↔◌, ◌==◌, ◌&&◌, Option, Some, find, unwrap_or}
 use Rattle.std.specs.List.{range_with_len}
-use Rattle.std.proofs.lemmas.Bool.{cases_Bool, cases_order, cases_eq, both_ways, and_parts, and_from, false_from_ne_true, not_from_false, not-true, ne_eqb, eqb-true, eq-eqb, eqb-false}
-use Rattle.hg_base.specs.Edges.{ListedEdge, EdgeList, IsIn, AreApart, AreWithin, Joined, joined, below, joins, is_joining, next, count_below}
-use Rattle.hg_base.specs.Tree.{ParentTree, parent, IsAbove, place, node_or, tree_of, HasComponent}
+use Rattle.std.proofs.lemmas.Bool.{cases_order, both_ways, and_parts, and_from, false_from_ne_true, eqb-true, eq-eqb}
+use Rattle.hg_base.specs.Edges.{ListedEdge, EdgeList, IsIn, AreApart, AreWithin, joined, below, joins, is_joining, next, count_below}
+use Rattle.hg_base.specs.Tree.{ParentTree, parent, IsAbove, place, node_or, tree_of}
 use Rattle.hg_base.specs.Levels.{IsClimbing}
 use Rattle.hg_base.proofs.Climbs.{above-parent, above-next, above-either, above-rises}
 use Rattle.hg_base.proofs.Counts.{count_below-zero}
@@ -12,12 +12,12 @@ use Rattle.hg_base.proofs.CountMore.{count_below-cut}
 use Rattle.hg_base.proofs.Drops.{holds}
 use Rattle.hg_base.proofs.Fronts.{joined-step_with}
 use Rattle.hg_base.proofs.FrontOnce.{ends-apart}
-use Rattle.hg_base.proofs.FrontTree.{IsStill, LastBelow, last_below, above-made, component-leaf, component-made}
-use Rattle.hg_base.proofs.Leasts.{FirstOf, first_of}
+use Rattle.hg_base.proofs.FrontTree.{IsStill, last_below, above-made, component-leaf, component-made}
+use Rattle.hg_base.proofs.Leasts.{first_of}
 use Rattle.hg_base.proofs.Leaving.{leaves}
 use Rattle.hg_base.proofs.Link.{IsSame, link_cases}
 use Rattle.hg_base.proofs.Merged.{next-row, joined-to_end}
-use Rattle.hg_base.proofs.Next.{IsFirst, IsFirst-one, next-first}
+use Rattle.hg_base.proofs.Next.{IsFirst-one, next-first}
 use Rattle.hg_base.proofs.Nodes.{length-parents, parent-leaf, parent-inner}
 use Rattle.hg_base.proofs.Meeting.{place-less}
 use Rattle.hg_base.proofs.Paths.{leaving-joins}

@@ -1,14 +1,13 @@
 -- Survivors one by one: tables, and what each entry reads.
-use Rattle.std.proofs.Common.{◌≡◌, ◌≢◌, ℕ, zero, suc, ◌+◌, ◌<◌, ◌≤◌, Bool, true, false, cond, ◌⊎◌, inl, inr, refl, sym, ◌∙◌, subst, ap, arith, List, [], ◌∷◌, ◌++◌, length, get_or, length-append}
+use Rattle.std.proofs.Common.{◌≡◌, ℕ, zero, suc, ◌<◌, ◌≤◌, Bool, true, false, cond, inl, inr, refl, sym, ◌∙◌, subst, ap, arith, List, [], ◌∷◌, ◌++◌, length, get_or, length-append}
 use Rattle.std.specs.Prelude.{◌↔◌, ◌==◌, ◌&&◌, ◌||◌, nat_lt}
-use Rattle.std.proofs.lemmas.Bool.{cases_Bool, cases_lt, cases_order, both_ways, and_parts, and_from, cond-true, cond-false}
+use Rattle.std.proofs.lemmas.Bool.{cases_Bool, cases_order, both_ways, cond-true}
 use Rattle.hg_base.specs.Labels.{IsLabel}
 use Rattle.hg_base.specs.Tree.{ParentTree}
 use Rattle.partition_tree.specs.Forest.{IsForest}
-use Rattle.partition_tree.specs.Children.{child_count}
 use Rattle.watershed_cut.specs.MinimumLabels.{LabelledMinima}
 use Rattle.extinction.specs.Holding.{holds, least_held, child, child_holds, both_hold}
-use Rattle.extinction.specs.Survivors.{dies, dying, living, survivor_after, grown, table, survivors, survivor}
+use Rattle.extinction.specs.Survivors.{dies, living, survivor_after, table, survivors, survivor}
 use Rattle.extinction.proofs.HoldLemmas.{least-none, least-some, child-there, child_holds-to, child_holds-up}
 
 -- a list and one more

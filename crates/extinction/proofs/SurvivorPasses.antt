@@ -1,11 +1,11 @@
 -- The passes that find survivors, persistences and extinctions.
 use Rattle.std.proofs.Common.{◌≡◌, ◌≢◌, ℕ, zero, suc, ◌+◌, ◌-◌, ◌<◌, ◌≤◌, Bool, true, false, cond, ◌⊎◌, inl, inr, refl, sym, ◌∙◌, ap, subst, arith, List, [], ◌∷◌, ◌++◌, length, get_or, set, replicate, map}
-use Rattle.std.specs.Prelude.{◌↔◌, ◌==◌, ◌&&◌, ◌||◌, not, nat_lt, min, find, Option, Some, None}
+use Rattle.std.specs.Prelude.{◌↔◌, ◌==◌, ◌&&◌, not, nat_lt, min, find, Option, Some, None}
 use Rattle.std.specs.Option.{option_map_or}
 use Rattle.std.specs.List.{range_with_len}
-use Rattle.std.proofs.lemmas.Bool.{cases_Bool, cases_eq, cases_lt, cases_order, both_ways, and_left, and_from, and_parts, not-true, eq-eqb, ne_eqb, eqb-true, cond-true, cond-false, false_from_ne_true, lt-ltb, le-ltb, true_from_ne_false}
+use Rattle.std.proofs.lemmas.Bool.{cases_eq, both_ways, and_left, and_from, and_parts, not-true, eq-eqb, ne_eqb, eqb-true, cond-true, cond-false, false_from_ne_true, lt-ltb, le-ltb, true_from_ne_false}
 use Rattle.std.proofs.lemmas.List.{get_or-set_same, get_or-set_other, length-set}
-use Rattle.std.proofs.lemmas.List.FromFn.{fill_by_all, get_or-map-range_with_len, length-map-range_with_len}
+use Rattle.std.proofs.lemmas.List.FromFn.{get_or-map-range_with_len, length-map-range_with_len}
 use Rattle.hg_base.specs.Labels.{IsLabel}
 use Rattle.hg_base.specs.Tree.{ParentTree, parent}
 use Rattle.partition_tree.specs.Forest.{IsForest}
@@ -13,8 +13,8 @@ use Rattle.partition_tree.specs.Children.{child_count}
 use Rattle.watershed_cut.specs.MinimumLabels.{LabelledMinima}
 use Rattle.extinction.specs.Holding.{holds, least_held, child, child_holds, both_hold}
 use Rattle.extinction.specs.Persistence.{persistence, persistences}
-use Rattle.extinction.specs.Survivors.{dies, dying, survivor_after, table, survivors, survivor, dies_at, lives_at, extinction_by, extinctions}
-use Rattle.extinction.specs.Passes.{HasTwoEach, pair_of, AreChildPairs, AreOwnLabels, AreSurvivorsTo, AreSurvivors, both_live, label_after, value_after, dying_after, root_value, death_value, AreRootsFrom, AreDeathsFrom}
+use Rattle.extinction.specs.Survivors.{dies, dying, survivor_after, survivors, survivor, dies_at, lives_at, extinction_by, extinctions}
+use Rattle.extinction.specs.Passes.{pair_of, AreChildPairs, AreOwnLabels, AreSurvivorsTo, AreSurvivors, both_live, label_after, value_after, dying_after, root_value, death_value, AreRootsFrom, AreDeathsFrom}
 use Rattle.attributes.proofs.Rows.{values_more}
 use Rattle.extinction.proofs.SideLemmas.{leaf-childless}
 use Rattle.extinction.proofs.SurvivorLemmas.{outcome, table-length, survivor-outcome, survivor-own, survivor-zero, survivor-label}

@@ -1,11 +1,11 @@
 -- What the tree of a graph keeps to.
-use Rattle.std.proofs.Common.{◌≡◌, ℕ, ◌+◌, ◌<◌, ◌≤◌, inl, inr, sym, ◌∙◌, ap, arith, length}
+use Rattle.std.proofs.Common.{◌≡◌, ℕ, ◌<◌, ◌≤◌, inl, inr, sym, ◌∙◌, ap, arith, length}
 use Rattle.hg_base.specs.Graph.{WeightedGraph, IsGraph}
 use Rattle.hg_base.specs.Edges.{ListedEdge, IsIn, AreApart, AreWithin, joins}
 use Rattle.hg_base.specs.Rank.{ranked}
 use Rattle.hg_base.specs.Saliency.{AreByWeight}
-use Rattle.hg_base.specs.Tree.{graph_tree, place}
-use Rattle.hg_base.specs.Levels.{IsClimbing, AltitudesRise, IsLevelTree}
+use Rattle.hg_base.specs.Tree.{graph_tree}
+use Rattle.hg_base.specs.Levels.{IsClimbing, IsLevelTree}
 use Rattle.hg_base.proofs.FrontOnce.{leaf_or_made}
 use Rattle.hg_base.proofs.Levels.{level-tree}
 use Rattle.hg_base.proofs.Ranked.{AreApart-ranked, AreWithin-ranked, AreByWeight-ranked}

@@ -1,15 +1,10 @@
 -- The order of a list of numbers, ties by place, as the ranks of edges that weigh as much.
-use Rattle.std.proofs.Common.{◌≡◌, ℕ, zero, suc, ◌+◌, ◌<◌, ◌≤◌, Bool, true, inl, inr, refl, sym, ◌∙◌, ap, subst, arith, List, [], ◌∷◌, length, get_or, map, count_by}
-use Rattle.std.specs.Prelude.{slice_get}
-use Rattle.std.specs.Option.{option_map_or}
+use Rattle.std.proofs.Common.{◌≡◌, ℕ, zero, suc, ◌<◌, ◌≤◌, Bool, refl, sym, ◌∙◌, ap, arith, List, [], ◌∷◌, length, get_or, map, count_by}
 use Rattle.std.specs.List.{range_with_len}
-use Rattle.std.proofs.lemmas.Bool.{cases_lt}
 use Rattle.std.proofs.lemmas.List.{length-map}
-use Rattle.std.proofs.lemmas.List.FromFn.{get_or-map-range_with_len, length-map-range_with_len}
 use Rattle.hg_base.specs.declared.graph.Edge.{Edge}
 use Rattle.hg_base.specs.Graph.{WeightedGraph, weight}
 use Rattle.hg_base.specs.Rank.{numbers, comes_before, rank, number_at}
-use Rattle.hg_base.proofs.Leasts.{map-agree}
 use Rattle.hg_base.proofs.Ranks.{rank-below, rank-injective, number_at-rank, number_at-below, rank-number_at, weight-rises}
 use Rattle.extinction.specs.Hierarchy.{comes_sooner, turn}
 

@@ -1,31 +1,29 @@
 -- A side that holds a minimum has a positive attribute, of each kind.
-use Rattle.std.proofs.Common.{◌≡◌, ◌≢◌, ℕ, zero, suc, ◌+◌, ◌-◌, ◌*◌, ◌<◌, ◌≤◌, Bool, true, ◌⊎◌, inl, inr, refl, sym, ◌∙◌, subst, ap, arith, List, [], ◌∷◌, length, get_or, map}
-use Rattle.std.specs.Prelude.{slice_get, unwrap_or, Option}
+use Rattle.std.proofs.Common.{◌≡◌, ◌≢◌, ℕ, zero, suc, ◌-◌, ◌*◌, ◌<◌, ◌≤◌, inl, inr, refl, sym, subst, ap, arith, List, [], ◌∷◌, length, get_or, map}
+use Rattle.std.specs.Prelude.{unwrap_or, Option}
 use Rattle.std.specs.List.{range_with_len, sum_by}
-use Rattle.std.proofs.lemmas.Bool.{cases_eq}
 use Rattle.std.proofs.lemmas.List.Sums.{sum_by-cons}
 use Rattle.std.proofs.lemmas.List.FromFn.{get_or-map-range_with_len}
 use Rattle.std.proofs.lemmas.Option.{get_or_from_slice_get}
 use Rattle.hg_base.specs.Graph.{WeightedGraph, IsGraph}
-use Rattle.hg_base.specs.Edges.{ListedEdge, IsIn}
+use Rattle.hg_base.specs.Edges.{IsIn}
 use Rattle.hg_base.specs.Rank.{ranked}
 use Rattle.hg_base.specs.Tree.{ParentTree, parent, altitude, IsAbove, graph_tree}
 use Rattle.hg_base.specs.Levels.{is_above}
-use Rattle.hg_base.proofs.Climbs.{above-on, above-next, above-altitude, above-rises}
+use Rattle.hg_base.proofs.Climbs.{above-next, above-altitude}
 use Rattle.hg_base.proofs.Members.{IsIn-filter}
 use Rattle.hg_base.proofs.Nodes.{slice_get-some}
 use Rattle.hg_base.proofs.Tops.{is_above-from}
-use Rattle.attributes.specs.Attributes.{floor, area, area_of, volume_under, dynamics_under, vertices, altitude_over, least, attributes_of}
+use Rattle.attributes.specs.Attributes.{floor, area, area_of, volume_under, dynamics_under, vertices, altitude_over}
 use Rattle.attributes.proofs.LowFloors.{least-le, in-mapped, floors-low}
-use Rattle.watershed_cut.specs.Minima.{InMinimum}
 use Rattle.watershed_cut.specs.MinimumTests.{vertex_label}
 use Rattle.watershed_cut.specs.Passes.{IsPlateau}
 use Rattle.watershed_cut.proofs.AnyIn.{range-from}
-use Rattle.watershed_cut.proofs.PlateauLaws.{IsLevelled, edge-below, leaf-node, root-alone}
-use Rattle.extinction.specs.Values.{values_of, graph_values}
+use Rattle.watershed_cut.proofs.PlateauLaws.{leaf-node, root-alone}
+use Rattle.extinction.specs.Values.{graph_values}
 use Rattle.extinction.specs.declared.kind.Kind.{Kind}
 use Rattle.extinction.specs.declared.kind.Kind.TheVariants as kinds
-use Rattle.extinction.proofs.TreeFacts.{IsOfGraph, of-graph}
+use Rattle.extinction.proofs.TreeFacts.{of-graph}
 use Rattle.extinction.proofs.Bottoms.{levelled, IsBottom, bottom-of, bottom-same, labelled-member}
 
 -- a sum is no less than any of what it adds

@@ -1,4 +1,4 @@
-use Rattle.std.proofs.Common.{◌≡◌, ℕ, List, ◌++◌, ◌∙◌, ap, arith, length, take, drop}
+use Rattle.std.proofs.Common.{◌∙◌, arith}
 use Rattle.extinction.proofs.PairLemmas.{written-back}
 use Rattle.extinction.specs.Values.{values_of}
 use Rattle.extinction.proofs.OneGraph.{extinctions-graph}

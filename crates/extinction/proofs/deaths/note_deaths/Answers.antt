@@ -1,5 +1,4 @@
-use Rattle.std.proofs.Common.{◌≡◌, ◌≢◌, ◌<◌, ◌≤◌, ◌+◌, ◌-◌, ℕ, List, refl, sym, ◌∙◌, ap, subst, arith, length, get_or}
-use Rattle.hg_base.specs.Labels.{IsLabel}
+use Rattle.std.proofs.Common.{◌≡◌, ◌<◌, ◌≤◌, ◌+◌, ◌-◌, ℕ, List, refl, sym, ◌∙◌, ap, subst, arith, length}
 use Rattle.extinction.specs.Values.{values_of}
 use Rattle.extinction.specs.Passes.{AreDeathsFrom, dying_after}
 use Rattle.extinction.proofs.OneGraph.{one-areas}

@@ -1,9 +1,8 @@
-use Rattle.std.proofs.Common.{◌≡◌, ◌≢◌, ◌<◌, ◌≤◌, ◌+◌, ◌-◌, ℕ, List, refl, sym, ◌∙◌, ap, subst, inl, inr, arith, length, get_or}
-use Rattle.hg_base.specs.Labels.{IsLabel}
+use Rattle.std.proofs.Common.{◌≡◌, ◌<◌, ◌+◌, ◌-◌, ℕ, refl, sym, ◌∙◌, subst, inl, inr, arith, length}
 use Rattle.extinction.specs.Values.{values_of}
 use Rattle.extinction.specs.Passes.{AreRootsFrom}
 use Rattle.extinction.proofs.OneGraph.{one-areas}
-use Rattle.extinction.proofs.SurvivorPasses.{survivors-length, survivor-is_label, read-own, roots-first, roots-same, roots-more}
+use Rattle.extinction.proofs.SurvivorPasses.{survivors-length, survivor-is_label, read-own, roots-same, roots-more}
 use Rattle.extinction.proofs.deaths.note_roots.Goals as goal
 use Rattle.extinction.proofs.deaths.note_roots.Goals.{else-label-ne0-via-then-label-ne0+else-parent-i, else-label-ne0-via-else-label-ne0}
 

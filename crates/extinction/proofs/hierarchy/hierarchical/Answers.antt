@@ -1,4 +1,4 @@
-use Rattle.std.proofs.Common.{◌≡◌, ◌<◌, ℕ, List, sym, ◌∙◌, ap, subst, arith, length}
+use Rattle.std.proofs.Common.{◌≡◌, ◌<◌, ℕ, List, sym, ◌∙◌, ap, subst, length}
 use Rattle.std.specs.Prelude.{◌↔◌}
 use Rattle.std.proofs.lemmas.List.{length-map}
 use Rattle.hg_base.specs.Edges.{ListedEdge, joins}
@@ -9,7 +9,6 @@ use Rattle.partition_tree.specs.declared.list.Ranked.{Ranked}
 use Rattle.partition_tree.specs.Ranked.{IsRankedList, edges_of}
 use Rattle.partition_tree.proofs.ListLemmas.{edges-apart}
 use Rattle.watershed_cut.specs.Watershed.{tree_label}
-use Rattle.extinction.specs.Values.{AreOf}
 use Rattle.extinction.specs.Persistence.{persistences_of}
 use Rattle.extinction.specs.Hierarchy.{hierarchy_edges, hierarchy_of}
 use Rattle.extinction.specs.Turns.{IsListedBy}

@@ -1,4 +1,4 @@
-use Rattle.std.proofs.Common.{ℕ, List, ap, sym, subst}
+use Rattle.std.proofs.Common.{ℕ, List, sym, subst}
 use Rattle.extinction.specs.Turns.{AreSorted}
 use Rattle.extinction.proofs.hierarchy.listed.Goals as goal
 

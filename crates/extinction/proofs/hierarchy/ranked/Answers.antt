@@ -1,6 +1,5 @@
-use Rattle.std.proofs.Common.{◌≡◌, ◌<◌, ◌+◌, ◌-◌, ℕ, sym, ◌∙◌, ap, subst, arith, length}
-use Rattle.hg_base.specs.Tree.{ParentTree}
-use Rattle.watershed_cut.proofs.ForestPasses.{maker-below, maker-is}
+use Rattle.std.proofs.Common.{◌+◌, ◌-◌, arith}
+use Rattle.watershed_cut.proofs.ForestPasses.{maker-below}
 use Rattle.extinction.proofs.hierarchy.ranked.Goals as goal
 
 pub overflow_add-leaves : goal.overflow_add-leaves

@@ -1,6 +1,4 @@
-use Rattle.std.proofs.Common.{◌≡◌, ◌<◌, ◌+◌, ℕ, List, sym, ◌∙◌, ap, subst, arith, length}
-use Rattle.hg_base.specs.Tree.{ParentTree, graph_tree}
-use Rattle.watershed_cut.specs.MinimumLabels.{LabelledMinima}
+use Rattle.std.proofs.Common.{◌≡◌, ◌+◌, sym, ◌∙◌, ap, subst, arith, length}
 use Rattle.extinction.specs.Passes.{AreLowest}
 use Rattle.extinction.proofs.OwnLemmas.{AreLowestTo, by-minima, lowest-same, lowest-more, lowest-all}
 use Rattle.extinction.proofs.lowest.lowest_nodes.Goals as goal

@@ -1,6 +1,6 @@
-use Rattle.std.proofs.Common.{◌≡◌, ◌<◌, ℕ, List, sym, ◌∙◌, ap, subst, arith, length}
+use Rattle.std.proofs.Common.{◌≡◌, arith}
 use Rattle.extinction.specs.Passes.{AreLowest, AreOwnLabels}
-use Rattle.extinction.proofs.OwnLemmas.{AreOwnTo, by-minima, own-first, own-more, own-all}
+use Rattle.extinction.proofs.OwnLemmas.{AreOwnTo, by-minima, own-all}
 use Rattle.extinction.proofs.lowest.own_labels.Goals as goal
 
 pub returns : goal.returns

@@ -1,4 +1,4 @@
-use Rattle.std.proofs.Common.{◌≡◌, ◌<◌, ◌≤◌, ◌+◌, ◌-◌, ℕ, List, refl, sym, ◌∙◌, ap, arith, length, get_or, map}
+use Rattle.std.proofs.Common.{◌<◌, ◌≤◌, ℕ, List, sym, ◌∙◌, ap, arith, length}
 use Rattle.extinction.specs.Values.{values_of}
 use Rattle.extinction.specs.Passes.{value_after}
 use Rattle.extinction.proofs.OneGraph.{one-areas, persistences-graph}

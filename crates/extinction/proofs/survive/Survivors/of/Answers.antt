@@ -1,6 +1,6 @@
-use Rattle.std.proofs.Common.{◌≡◌, ◌<◌, ◌≤◌, ℕ, List, refl, sym, ◌∙◌, ap, arith, length, get_or}
+use Rattle.std.proofs.Common.{◌<◌, ◌≤◌, ℕ, List, refl, sym, ◌∙◌, ap, arith, length, get_or}
 use Rattle.extinction.specs.Values.{values_of}
-use Rattle.extinction.specs.Passes.{label_after, AreSurvivors}
+use Rattle.extinction.specs.Passes.{label_after}
 use Rattle.extinction.proofs.OneGraph.{one-two, one-areas}
 use Rattle.extinction.proofs.SurvivorPasses.{IsAtNode, at-node, survivors-first, survivors-more, survivors-all, label-after}
 use Rattle.extinction.proofs.survive.Survivors.of.Goals as goal

@@ -43,7 +43,11 @@ fn check_covered(rt: &impl Abort, region: &Region, id: u32)
 fn check_used(rt: &impl Abort, region: &Region, id: u32, turn: u32)
     ensures { IsUsed region.now id }
 {
-    let found = region.find(Hint { cell: id, turn });
+    let found = region.find(Hint {
+        cell: id,
+        turn,
+        rank: 0,
+    });
     assert!(rt; found.is_some());
 }
 
@@ -83,7 +87,11 @@ fn free_numbers_run_over_chunks(rt: HostRuntime) -> Result<(), Fail> {
 #[test]
 fn what_is_noted_is_read(rt: HostRuntime) -> Result<(), Fail> {
     let mut region = region(&rt, rt.alloc(), 4, 2, 2, 1);
-    let hint = Hint { cell: 4, turn: 1 };
+    let hint = Hint {
+        cell: 4,
+        turn: 1,
+        rank: 7,
+    };
     check_covered(&rt, &region, 4);
     region.set_leaf(4, Some(5));
     region.set_finger(4, Some(hint));
@@ -92,7 +100,10 @@ fn what_is_noted_is_read(rt: HostRuntime) -> Result<(), Fail> {
         (region.leaf(4), region.finger(4), region.hint(4)),
         (Some(5), Some(hint), Some(hint))
     );
-    assert_eq!(rt; (region.find(hint), region.turn(4)), (None, 0));
+    assert_eq!(rt;
+        (region.find(hint), region.cell(4), region.turn(4)),
+        (None, None, 0)
+    );
     assert_eq!(rt; region.take(CELL), Some(4));
     assert_eq!(rt; region.find(hint), Some(CELL));
     check_used(&rt, &region, 4, 1);
@@ -109,8 +120,13 @@ fn what_is_noted_is_read(rt: HostRuntime) -> Result<(), Fail> {
     );
     check_covered(&rt, &region, 4);
     assert_eq!(rt;
-        (region.hint(4), region.turn(4), region.leaf(4)),
-        (None, 2, Some(5))
+        (
+            region.hint(4),
+            region.turn(4),
+            region.cell(4),
+            region.leaf(4)
+        ),
+        (None, 2, Some(CELL), Some(5))
     );
     Ok(())
 }

@@ -14,3 +14,4 @@ pub mod Sorting
 pub mod Leasts
 pub mod Placing
 pub mod Result
+pub mod Weighing

@@ -82,12 +82,7 @@ mapped_next {X} {Y} h xs k x v items new so_far there value pushed =
     ∙ ap (map h) (sym (take-next xs k x there))
     ∙ ap (λ (n : ℕ). map h (take n xs)) (sym e)
 
--- what holds of each element holds with one more
-last-of : {X : Type 0} (P : X → Type 0) (xs : List X) (v : X) → All P xs → P v → All P (xs ++ v ∷ [])
-last-of P [] v all p zero d lt = p
-last-of P [] v all p (suc k) d lt = absurd (omega arith)
-last-of P (x ∷ xs) v all p zero d lt = all 0 d (omega arith)
-last-of P (x ∷ xs) v all p (suc k) d lt = last-of P xs v (λ j e h. all (suc j) e (omega arith)) p k d (omega arith)
-
-pub all_next : {X : Type 0} (P : X → Type 0) (xs new : List X) (v : X) → All P xs → P v → new ≡ xs ++ v ∷ [] → All P new
-all_next {X} P xs new v all p pushed = subst (λ (l : List X). All P l) (sym pushed) (last-of P xs v all p)
+pub element_next : {X : Type 0} (xs : List X) (k : ℕ) (x : X) (items new : List X) → items ≡ take k xs → slice_get xs k ≡ Some x → new ≡ items ++ x ∷ [] → new ≡ take (k + 1) xs
+element_next {X} xs k x items new so_far there pushed =
+    let e : k + 1 ≡ suc k = omega arith in
+    pushed ∙ ap (λ (l : List X). l ++ x ∷ []) so_far ∙ sym (take-next xs k x there) ∙ ap (λ (n : ℕ). take n xs) (sym e)

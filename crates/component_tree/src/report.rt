@@ -32,7 +32,13 @@ pub fn components_pieces(
 ) -> Result<Pieces, OutOfMemory>
     ensures { IfOk result (λ pieces. pieces ≡ components_report side tree.now) }
 {
-    pieces_of(rt, alloc, word(side), &sizes(tree), &ComponentLines { tree })
+    pieces_of(
+        rt,
+        alloc,
+        word(side),
+        &sizes(tree),
+        &ComponentLines { tree },
+    )
 }
 
 // The word of the report.

@@ -15,3 +15,5 @@ pub mod Leasts
 pub mod Placing
 pub mod Result
 pub mod Weighing
+pub mod Exists
+pub mod Existence

@@ -1,16 +1,12 @@
 -- Steps of the passes: one more value, one more number that passes, one more edge.
-use Rattle.std.proofs.Common.{◌≡◌, ℕ, zero, suc, ◌+◌, ◌-◌, ◌<◌, ◌≤◌, Bool, true, false, cond, inl, inr, refl, sym, ◌∙◌, subst, ap, arith, List, [], ◌∷◌, ◌++◌, length, map, get_or, take, append_assoc, append-nil, add-one}
-use Rattle.std.specs.Prelude.{Option, Some, None, All, filter, slice_get, nat_lt, if◌then◌else◌, codes}
-use Rattle.std.specs.List.{range_with_len, flat_map}
+use Rattle.std.proofs.Common.{◌≡◌, ℕ, zero, suc, ◌+◌, ◌-◌, ◌≤◌, Bool, true, false, cond, refl, sym, ◌∙◌, ap, arith, List, [], ◌∷◌, ◌++◌, map, take, append_assoc, append-nil}
+use Rattle.std.specs.Prelude.{Some, slice_get, nat_lt, if◌then◌else◌}
+use Rattle.std.specs.List.{range_with_len}
 use Rattle.std.proofs.lemmas.Bool.{lt-ltb, le-ltb}
 use Rattle.std.proofs.lemmas.List.{map-append}
 use Rattle.std.proofs.lemmas.List.FromFn.{map-range_with_len_more}
-use Rattle.hg_base.specs.Text.{line}
 use Rattle.hg_base.proofs.Leasts.{map-agree}
 use Rattle.hg_base.proofs.Passing.{passing, passing-suc}
-use Rattle.partition_tree.proofs.NodeLemmas.{pieces_more}
-use Rattle.component_tree.specs.Components.{ComponentLists, parent_of, level_of}
-use Rattle.component_tree.specs.Report.{component_line}
 use Rattle.component_tree.proofs.Unique.{range-parts}
 
 -- the value of the next number is there

@@ -1,21 +1,15 @@
 -- The lists that the passes build are those of the component tree.
-use Rattle.std.proofs.Common.{◌≡◌, ℕ, zero, suc, ◌+◌, ◌-◌, ◌<◌, ◌≤◌, inl, inr, refl, sym, ◌∙◌, subst, ap, arith, List, [], ◌∷◌, ◌++◌, length, length-append, map, get_or}
-use Rattle.std.specs.Prelude.{Some, slice_get, nat_lt, All, if◌then◌else◌}
-use Rattle.std.specs.Option.{option_map_or}
+use Rattle.std.proofs.Common.{◌≡◌, ℕ, zero, suc, ◌+◌, ◌<◌, ◌≤◌, refl, sym, ◌∙◌, subst, ap, arith, List, [], ◌∷◌, ◌++◌, length, length-append, map, get_or}
 use Rattle.std.specs.List.{range_with_len}
 use Rattle.std.proofs.lemmas.Bool.{lt-ltb, le-ltb}
-use Rattle.std.proofs.lemmas.Option.{get_or_from_slice_get}
 use Rattle.std.proofs.lemmas.Simd.{map-map}
 use Rattle.std.proofs.lemmas.List.{map-append, length-map, get_or-map, get_or-append-add}
 use Rattle.std.proofs.lemmas.List.FromFn.{length-map-range_with_len, get_or-map-range_with_len}
-use Rattle.hg_base.specs.declared.graph.Edge.{Edge}
 use Rattle.hg_base.specs.Graph.{WeightedGraph, IsGraph}
 use Rattle.hg_base.specs.Edges.{EdgeList, AreWithin}
-use Rattle.hg_base.specs.Rank.{number_at, ranked}
-use Rattle.hg_base.specs.Tree.{ParentTree, parent, altitude, graph_tree, tree_of}
+use Rattle.hg_base.specs.Rank.{ranked}
+use Rattle.hg_base.specs.Tree.{ParentTree, tree_of}
 use Rattle.hg_base.proofs.Leasts.{map-agree}
-use Rattle.hg_base.proofs.Nodes.{slice_get-some}
-use Rattle.hg_base.proofs.Ranks.{number_at-below}
 use Rattle.hg_base.proofs.Ranked.{AreApart-ranked, AreByWeight-ranked, AreWithin-ranked}
 use Rattle.hg_base.proofs.Levels.{level-tree}
 use Rattle.partition_tree.specs.Forest.{IsForest}
@@ -26,9 +20,8 @@ use Rattle.component_tree.specs.Components.{ComponentLists, IsComponentTree}
 use Rattle.component_tree.specs.MinTree.{turned, turned_back, value_at, component_tree_of}
 use Rattle.component_tree.specs.Weighed.{weighed_graph}
 use Rattle.component_tree.specs.Passes.{level_in, levels_in, component_at, AreLeasts, AreComponents, ArePlaces, leaf_parent, component_parent, HasLeaves, AreGreaterEnds, AreFloodEdges, IsTurnedTree}
-use Rattle.component_tree.proofs.Floods.{IsFlood}
 use Rattle.component_tree.proofs.Flooded.{flooded-tree}
-use Rattle.component_tree.proofs.Built.{IsBuilt, built-tree}
+use Rattle.component_tree.proofs.Built.{built-tree}
 use Rattle.component_tree.proofs.Ends.{greater-ends, weighed-ends, ends-weighed, within-ends, ends-tree}
 use Rattle.component_tree.proofs.Sided.{sided-tree, one-tree, value-fits}
 use Rattle.component_tree.specs.Values.{AreValues}

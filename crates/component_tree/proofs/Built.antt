@@ -1,20 +1,17 @@
 -- What the passes build is the min tree: the nodes are the components up to each level, each once, with levels, numbers
 -- and parents as they are to be.
-use Rattle.std.proofs.Common.{◌≡◌, ◌≢◌, ℕ, ◌+◌, ◌-◌, ◌<◌, ◌≤◌, Bool, true, false, ◌⊎◌, inl, inr, refl, sym, ◌∙◌, subst, ap, arith, List, length, get_or}
-use Rattle.std.specs.Prelude.{filter, IsTrue, nat_le, slice_index}
-use Rattle.std.specs.List.{range_with_len}
+use Rattle.std.proofs.Common.{◌≡◌, ◌≢◌, ℕ, ◌+◌, ◌-◌, ◌<◌, ◌≤◌, true, ◌⊎◌, inl, inr, refl, sym, ◌∙◌, subst, ap, arith, List, length, get_or}
 use Rattle.std.proofs.lemmas.Bool.{cases_lt, cases_order, cases_eq, cases_Bool, le-leb, leb-true}
 use Rattle.hg_base.specs.Edges.{EdgeList, IsIn, component, Joined, joined}
-use Rattle.hg_base.specs.Tree.{ParentTree, parent, altitude, ancestor, IsAbove}
+use Rattle.hg_base.specs.Tree.{ParentTree, parent, ancestor, IsAbove}
 use Rattle.hg_base.specs.Saliency.{at_most}
 use Rattle.hg_base.proofs.Sets.{same_test}
-use Rattle.hg_base.proofs.Passing.{passing}
 use Rattle.hg_base.proofs.Climbs.{above-on, above-next, above-either, above-parent, ancestor-root}
 use Rattle.component_tree.specs.declared.side.Side.TheVariants.{Min}
 use Rattle.component_tree.specs.declared.nodes.Component.{Component}
 use Rattle.component_tree.specs.Components.{ComponentLists, IsComponentNode, IsComponentTree, IsEarlier, Includes, inside, parent_of, level_of}
-use Rattle.component_tree.specs.Passes.{is_component, component_at, component_of, AreLeasts, AreComponents, IsNoLater, ArePlaces, IsNearestPlace}
-use Rattle.component_tree.proofs.Members.{Passes, IsIn-passing, passing-in, passing-agree, passing-same, passing-first}
+use Rattle.component_tree.specs.Passes.{is_component, component_at, AreLeasts, AreComponents, ArePlaces}
+use Rattle.component_tree.proofs.Members.{IsIn-passing, passing-in, passing-agree, passing-first}
 use Rattle.component_tree.proofs.Reach.{reach-joined, joined-reach}
 use Rattle.component_tree.proofs.Floods.{IsFlood, level, level-rises, level-along, value-low, below-joined, joined-below, component-cases, IsNodeOf, node_of-found, below-node_of, nodes-one}
 

@@ -1,9 +1,9 @@
 -- A weighed graph has the ends of the graph that was weighed, and its edges weigh the greater value of their ends, as a
 -- min tree sees them.
-use Rattle.std.proofs.Common.{◌≡◌, ℕ, ◌+◌, ◌-◌, ◌<◌, ◌≤◌, true, inl, inr, refl, sym, ◌∙◌, subst, ap, arith, List, [], ◌∷◌, length, map, get_or}
-use Rattle.std.specs.Prelude.{Option, Some, slice_get, nat_le, ◌&&◌, max, min, All}
+use Rattle.std.proofs.Common.{◌≡◌, ℕ, ◌<◌, ◌≤◌, true, inl, inr, sym, ◌∙◌, subst, ap, arith, List, [], ◌∷◌, length, map}
+use Rattle.std.specs.Prelude.{Option, Some, slice_get, nat_le, ◌&&◌, max}
 use Rattle.std.specs.Option.{option_map_or}
-use Rattle.std.proofs.lemmas.Bool.{cases_lt, leb-true, le-leb, and_parts, and_from}
+use Rattle.std.proofs.lemmas.Bool.{cases_lt, and_parts, and_from}
 use Rattle.std.proofs.lemmas.List.{length-map}
 use Rattle.hg_base.specs.declared.graph.Edge.{Edge}
 use Rattle.hg_base.specs.Graph.{WeightedGraph, first_end, second_end, weight}

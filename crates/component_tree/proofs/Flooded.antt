@@ -1,10 +1,9 @@
 -- The tree of a weighed graph is a flood.
-use Rattle.std.proofs.Common.{◌≡◌, ◌≢◌, ℕ, ◌+◌, ◌<◌, ◌≤◌, inl, inr, sym, ◌∙◌, subst, ap, arith, List, length, length-append, map, get_or}
+use Rattle.std.proofs.Common.{◌≡◌, ℕ, ◌+◌, ◌<◌, ◌≤◌, inl, inr, sym, ◌∙◌, subst, ap, arith, List, length, length-append, map, get_or}
 use Rattle.std.specs.Prelude.{replicate}
 use Rattle.std.proofs.lemmas.Bool.{cases_lt}
 use Rattle.std.proofs.lemmas.Option.{unwrap_or-slice_get}
 use Rattle.std.proofs.lemmas.List.{get_or_past, length-map, length-replicate}
-use Rattle.hg_base.specs.Graph.{WeightedGraph}
 use Rattle.hg_base.specs.Edges.{ListedEdge, EdgeList, IsIn, AreApart, AreWithin, joins}
 use Rattle.hg_base.specs.Tree.{ParentTree, altitude, IsAbove, place, tree_of}
 use Rattle.hg_base.specs.Saliency.{AreByWeight}

@@ -1,14 +1,14 @@
 -- The nodes of a min tree by their levels and least vertices: which they are, and in what order they stand.
-use Rattle.std.proofs.Common.{◌≡◌, ℕ, zero, suc, ◌+◌, ◌<◌, ◌≤◌, Bool, true, false, ◌⊎◌, inl, inr, refl, sym, ◌∙◌, subst, ap, arith, List, [], ◌∷◌, ◌++◌, length, map, get_or}
-use Rattle.std.specs.Prelude.{Option, Some, None, find, filter, fold, max, nat_le, ◌&&◌, ◌||◌, ◌==◌}
+use Rattle.std.proofs.Common.{◌≡◌, ℕ, zero, suc, ◌+◌, ◌<◌, ◌≤◌, Bool, true, false, ◌⊎◌, inl, inr, refl, sym, ◌∙◌, subst, ap, arith, List, [], ◌∷◌, ◌++◌, map}
+use Rattle.std.specs.Prelude.{Some, None, find, filter, fold, max, nat_le, ◌&&◌, ◌||◌, ◌==◌}
 use Rattle.std.specs.List.{range_with_len, flat_map, list_any, list_all}
-use Rattle.std.proofs.lemmas.Bool.{cases_Bool, cases_order, eqb-true, eq-eqb, leb-true, le-leb, and_parts, and_from, or_left, or_right, or_parts, true≢false}
+use Rattle.std.proofs.lemmas.Bool.{cases_Bool, cases_order, eqb-true, eq-eqb, leb-true, le-leb, and_parts, and_from, or_left, or_right, true≢false}
 use Rattle.hg_base.specs.Edges.{EdgeList, IsIn, component, joined, is_least}
 use Rattle.hg_base.proofs.Members.{IsIn-filter, IsIn-kept}
 use Rattle.component_tree.specs.declared.side.Side.TheVariants.{Min}
 use Rattle.component_tree.specs.Components.{inside, Includes}
 use Rattle.component_tree.specs.MinTree.{Head, is_head, heads_at, heads, greatest_value, has, includes}
-use Rattle.component_tree.proofs.Members.{IsBetween, IsIn-range, IsIn-from}
+use Rattle.component_tree.proofs.Members.{IsIn-range, IsIn-from}
 
 -- what is in a mapped list is some value
 pub IsIn-map : {X Y : Type 0} (h : X → Y) (xs : List X) (y : Y) → IsIn y (map h xs) → (x : X) × (IsIn x xs × (h x ≡ y))

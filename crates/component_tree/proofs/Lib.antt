@@ -14,3 +14,6 @@ pub mod Sorting
 pub mod Leasts
 pub mod Placing
 pub mod Result
+pub mod Weighing
+pub mod Exists
+pub mod Existence

@@ -1,10 +1,10 @@
 -- The numbers that pass a test, as a list: who is in it, its first, and when two are one.
-use Rattle.std.proofs.Common.{◌≡◌, ℕ, zero, suc, ◌+◌, ◌<◌, ◌≤◌, Bool, true, false, inl, inr, refl, sym, ◌∙◌, subst, ap, arith, List, [], ◌∷◌, get_or}
+use Rattle.std.proofs.Common.{◌≡◌, ℕ, zero, suc, ◌+◌, ◌<◌, ◌≤◌, Bool, true, false, inl, inr, refl, sym, ◌∙◌, subst, ap, arith, List, ◌∷◌, get_or}
 use Rattle.std.specs.Prelude.{Some, filter, slice_get}
 use Rattle.std.specs.List.{range_with_len}
 use Rattle.std.proofs.lemmas.Bool.{cases_Bool, cases_order}
 use Rattle.std.proofs.lemmas.Option.{get_or_from_slice_get}
-use Rattle.hg_base.specs.Edges.{IsIn, count_below}
+use Rattle.hg_base.specs.Edges.{IsIn}
 use Rattle.hg_base.proofs.Sets.{same_test}
 use Rattle.hg_base.proofs.Members.{IsIn-filter, IsIn-kept}
 use Rattle.hg_base.proofs.Counts.{count_below-zero}

@@ -1,16 +1,12 @@
 -- Steps of the passes: one more value, one more number that passes, one more edge.
-use Rattle.std.proofs.Common.{◌≡◌, ℕ, zero, suc, ◌+◌, ◌-◌, ◌<◌, ◌≤◌, Bool, true, false, cond, inl, inr, refl, sym, ◌∙◌, subst, ap, arith, List, [], ◌∷◌, ◌++◌, length, map, get_or, take, append_assoc, append-nil, add-one}
-use Rattle.std.specs.Prelude.{Option, Some, None, All, filter, slice_get, nat_lt, if◌then◌else◌, codes}
-use Rattle.std.specs.List.{range_with_len, flat_map}
+use Rattle.std.proofs.Common.{◌≡◌, ℕ, zero, suc, ◌+◌, ◌-◌, ◌≤◌, Bool, true, false, cond, refl, sym, ◌∙◌, ap, arith, List, [], ◌∷◌, ◌++◌, map, take, append_assoc, append-nil}
+use Rattle.std.specs.Prelude.{Some, slice_get, nat_lt, if◌then◌else◌}
+use Rattle.std.specs.List.{range_with_len}
 use Rattle.std.proofs.lemmas.Bool.{lt-ltb, le-ltb}
 use Rattle.std.proofs.lemmas.List.{map-append}
 use Rattle.std.proofs.lemmas.List.FromFn.{map-range_with_len_more}
-use Rattle.hg_base.specs.Text.{line}
 use Rattle.hg_base.proofs.Leasts.{map-agree}
 use Rattle.hg_base.proofs.Passing.{passing, passing-suc}
-use Rattle.partition_tree.proofs.NodeLemmas.{pieces_more}
-use Rattle.component_tree.specs.Components.{ComponentLists, parent_of, level_of}
-use Rattle.component_tree.specs.Report.{component_line}
 use Rattle.component_tree.proofs.Unique.{range-parts}
 
 -- the value of the next number is there
@@ -82,19 +78,7 @@ mapped_next {X} {Y} h xs k x v items new so_far there value pushed =
     ∙ ap (map h) (sym (take-next xs k x there))
     ∙ ap (λ (n : ℕ). map h (take n xs)) (sym e)
 
--- what holds of each element holds with one more
-last-of : {X : Type 0} (P : X → Type 0) (xs : List X) (v : X) → All P xs → P v → All P (xs ++ v ∷ [])
-last-of P [] v all p zero d lt = p
-last-of P [] v all p (suc k) d lt = absurd (omega arith)
-last-of P (x ∷ xs) v all p zero d lt = all 0 d (omega arith)
-last-of P (x ∷ xs) v all p (suc k) d lt = last-of P xs v (λ j e h. all (suc j) e (omega arith)) p k d (omega arith)
-
-pub all_next : {X : Type 0} (P : X → Type 0) (xs new : List X) (v : X) → All P xs → P v → new ≡ xs ++ v ∷ [] → All P new
-all_next {X} P xs new v all p pushed = subst (λ (l : List X). All P l) (sym pushed) (last-of P xs v all p)
-
--- a node's line is written
-pub line_more : (tree : ComponentLists) (head text new : List ℕ) (i a b d : ℕ) → text ≡ head ++ flat_map (component_line tree) (range_with_len 0 i) → new ≡ text ++ line (a ∷ b ∷ d ∷ []) → a ≡ i → b ≡ parent_of tree i → d ≡ level_of tree i →
-    new ≡ head ++ flat_map (component_line tree) (range_with_len 0 (i + 1))
-line_more tree head text new i a b d so_far pushed number above high =
-    let more = pieces_more (component_line tree) head i in
-    cc
+pub element_next : {X : Type 0} (xs : List X) (k : ℕ) (x : X) (items new : List X) → items ≡ take k xs → slice_get xs k ≡ Some x → new ≡ items ++ x ∷ [] → new ≡ take (k + 1) xs
+element_next {X} xs k x items new so_far there pushed =
+    let e : k + 1 ≡ suc k = omega arith in
+    pushed ∙ ap (λ (l : List X). l ++ x ∷ []) so_far ∙ sym (take-next xs k x there) ∙ ap (λ (n : ℕ). take n xs) (sym e)

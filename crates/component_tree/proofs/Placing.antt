@@ -1,8 +1,8 @@
 -- The passes that note at each node the place of the component at or above it.
-use Rattle.std.proofs.Common.{◌≡◌, ◌≢◌, ℕ, suc, ◌+◌, ◌<◌, ◌≤◌, true, false, ◌⊎◌, inl, inr, refl, sym, ◌∙◌, subst, ap, arith, List, length, length-set, get_or, set}
+use Rattle.std.proofs.Common.{◌≡◌, ℕ, ◌+◌, ◌<◌, ◌≤◌, true, false, inl, inr, refl, sym, ◌∙◌, subst, ap, arith, List, length, length-set, get_or, set}
 use Rattle.std.proofs.lemmas.Bool.{cases_eq}
 use Rattle.std.proofs.lemmas.List.{get_or-set_same, get_or-set_other}
-use Rattle.hg_base.specs.Tree.{ParentTree, parent, IsAbove}
+use Rattle.hg_base.specs.Tree.{ParentTree, parent}
 use Rattle.hg_base.specs.Levels.{IsClimbing}
 use Rattle.hg_base.proofs.Climbs.{above-on}
 use Rattle.component_tree.specs.declared.nodes.Component.{Component}

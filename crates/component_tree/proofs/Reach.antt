@@ -1,9 +1,9 @@
 -- Who hangs together at a level: the edges inside a level, and the edges of low weight where each weighs the greater value
 -- of its ends.
-use Rattle.std.proofs.Common.{◌≡◌, ℕ, ◌<◌, ◌≤◌, true, ◌⊎◌, inl, inr, refl, sym, ◌∙◌, subst, ap, arith, List, [], ◌∷◌}
+use Rattle.std.proofs.Common.{◌≡◌, ℕ, ◌≤◌, true, ◌⊎◌, inl, inr, ap, arith, [], ◌∷◌}
 use Rattle.std.specs.Prelude.{◌&&◌, nat_le}
 use Rattle.std.proofs.lemmas.Bool.{le-leb, leb-true, and_parts, and_from}
-use Rattle.hg_base.specs.Edges.{ListedEdge, EdgeList, IsIn, AreEnds, IsWalk, Joined, joined}
+use Rattle.hg_base.specs.Edges.{ListedEdge, EdgeList, IsIn, Joined, joined}
 use Rattle.hg_base.specs.Saliency.{at_most}
 use Rattle.hg_base.proofs.Members.{IsIn-filter, IsIn-kept}
 use Rattle.hg_base.proofs.Walks.{joined-walk, walk-among, Joined-joined}

@@ -1,22 +1,16 @@
 -- The lists that the passes build are those of the component tree.
-use Rattle.std.proofs.Common.{◌≡◌, ℕ, zero, suc, ◌+◌, ◌-◌, ◌<◌, ◌≤◌, inl, inr, refl, sym, ◌∙◌, subst, ap, arith, List, [], ◌∷◌, ◌++◌, length, length-append, map, get_or}
-use Rattle.std.specs.Prelude.{Some, slice_get, nat_lt, All, if◌then◌else◌}
-use Rattle.std.specs.Option.{option_map_or}
+use Rattle.std.proofs.Common.{◌≡◌, ℕ, zero, suc, ◌+◌, ◌<◌, ◌≤◌, refl, sym, ◌∙◌, subst, ap, arith, List, [], ◌∷◌, ◌++◌, length, length-append, map, get_or}
 use Rattle.std.specs.List.{range_with_len}
 use Rattle.std.proofs.lemmas.Bool.{lt-ltb, le-ltb}
-use Rattle.std.proofs.lemmas.Option.{get_or_from_slice_get}
 use Rattle.std.proofs.lemmas.Simd.{map-map}
 use Rattle.std.proofs.lemmas.List.{map-append, length-map, get_or-map, get_or-append-add}
 use Rattle.std.proofs.lemmas.List.FromFn.{length-map-range_with_len, get_or-map-range_with_len}
-use Rattle.hg_base.specs.declared.graph.Edge.{Edge}
-use Rattle.hg_base.specs.Graph.{WeightedGraph, JoinsTwo, first_end, second_end}
+use Rattle.hg_base.specs.Graph.{WeightedGraph, IsGraph}
 use Rattle.hg_base.specs.Edges.{EdgeList, AreWithin}
-use Rattle.hg_base.specs.Rank.{number_at, ranked}
-use Rattle.hg_base.specs.Tree.{ParentTree, parent, altitude, graph_tree, tree_of}
+use Rattle.hg_base.specs.Rank.{ranked}
+use Rattle.hg_base.specs.Tree.{ParentTree, tree_of}
 use Rattle.hg_base.proofs.Leasts.{map-agree}
-use Rattle.hg_base.proofs.Nodes.{slice_get-some}
-use Rattle.hg_base.proofs.Ranks.{number_at-below}
-use Rattle.hg_base.proofs.Ranked.{ranked-at, AreApart-ranked, AreByWeight-ranked}
+use Rattle.hg_base.proofs.Ranked.{AreApart-ranked, AreByWeight-ranked, AreWithin-ranked}
 use Rattle.hg_base.proofs.Levels.{level-tree}
 use Rattle.partition_tree.specs.Forest.{IsForest}
 use Rattle.component_tree.specs.declared.side.Side.{Side}
@@ -26,9 +20,8 @@ use Rattle.component_tree.specs.Components.{ComponentLists, IsComponentTree}
 use Rattle.component_tree.specs.MinTree.{turned, turned_back, value_at, component_tree_of}
 use Rattle.component_tree.specs.Weighed.{weighed_graph}
 use Rattle.component_tree.specs.Passes.{level_in, levels_in, component_at, AreLeasts, AreComponents, ArePlaces, leaf_parent, component_parent, HasLeaves, AreGreaterEnds, AreFloodEdges, IsTurnedTree}
-use Rattle.component_tree.proofs.Floods.{IsFlood}
 use Rattle.component_tree.proofs.Flooded.{flooded-tree}
-use Rattle.component_tree.proofs.Built.{IsBuilt, built-tree}
+use Rattle.component_tree.proofs.Built.{built-tree}
 use Rattle.component_tree.proofs.Ends.{greater-ends, weighed-ends, ends-weighed, within-ends, ends-tree}
 use Rattle.component_tree.proofs.Sided.{sided-tree, one-tree, value-fits}
 use Rattle.component_tree.specs.Values.{AreValues}
@@ -108,25 +101,12 @@ module _ (side : Side) (values : List ℕ) (t : ParentTree) (s : EdgeList) (leve
       ∙ ap (λ (x : List ℕ). map (turned side) (map f (range_with_len 0 t.leaves)) ++ x) (sym (map-map (turned side) (λ (c : Component). c.level) list))
       ∙ sym (map-append (turned side) (map f (range_with_len 0 t.leaves)) (map (λ (c : Component). c.level) list)))
 
--- the ends of the ranked edges are vertices where each edge joins two
-pub ranked-within : (g : WeightedGraph) → All (JoinsTwo g.n) g.edges → AreWithin g.n (ranked g)
-ranked-within g all e i =
-    let at = ranked-at g e i in
-    let low : e.rank < length g.edges = at.0 in
-    let k = number_at g e.rank in
-    let lt = number_at-below g e.rank (omega arith) in
-    let x = slice_get-some g.edges k lt in
-    let j : JoinsTwo g.n x.0 = subst (JoinsTwo g.n) (get_or_from_slice_get g.edges k x.0 x.0 x.1) (all k x.0 lt) in
-    let u : e.u ≡ x.0.u = ap (λ z. z.u) at.1 ∙ ap (λ o. option_map_or (λ (z : Edge). z.u) o 0) x.1 in
-    let v : e.v ≡ x.0.v = ap (λ z. z.v) at.1 ∙ ap (λ o. option_map_or (λ (z : Edge). z.v) o 0) x.1 in
-    (subst (λ (y : ℕ). y < g.n) (sym u) j.u, subst (λ (y : ℕ). y < g.n) (sym v) j.v)
-
 -- the edges of a weighed graph are those of a flood
-pub weighed-flood : (side : Side) (values : List ℕ) (w g : WeightedGraph) → w ≡ weighed_graph side values g → ((x : ℕ) → value_at values x ≤ 4294967295) → All (JoinsTwo w.n) w.edges →
+pub weighed-flood : (side : Side) (values : List ℕ) (w g : WeightedGraph) → w ≡ weighed_graph side values g → ((x : ℕ) → value_at values x ≤ 4294967295) → IsGraph w →
     AreFloodEdges (λ x. turned side (value_at values x)) w.n (ranked w)
-weighed-flood side values w g e fits all = record {
+weighed-flood side values w g e fits is = record {
   apart = AreApart-ranked w;
-  within = ranked-within w all;
+  within = AreWithin-ranked w is;
   by_weight = AreByWeight-ranked w;
   weights = subst (λ (u : WeightedGraph). AreGreaterEnds (λ x. turned side (value_at values x)) (ranked u)) (sym e) (greater-ends side values g fits);
 }
@@ -140,11 +120,11 @@ turned-components side values w g tree e fits t =
     (ends-tree (λ x. turned side (value_at values x)) g.n (ranked (weighed_graph side values g)) (ranked g) t.min (weighed-ends side values g) (ends-weighed side values g)
     (subst (λ (u : WeightedGraph). IsComponentTree Min (λ x. turned side (value_at values x)) u.n (ranked u) t.min) e t.is)))
 
-pub turned-function : (side : Side) (values : List ℕ) (w g : WeightedGraph) (tree : ComponentLists) → w ≡ weighed_graph side values g → ((x : ℕ) → value_at values x ≤ 4294967295) → All (JoinsTwo w.n) w.edges →
+pub turned-function : (side : Side) (values : List ℕ) (w g : WeightedGraph) (tree : ComponentLists) → w ≡ weighed_graph side values g → ((x : ℕ) → value_at values x ≤ 4294967295) → IsGraph w →
     IsTurnedTree side values w.n (ranked w) tree → tree ≡ component_tree_of side values g
-turned-function side values w g tree e fits all t =
+turned-function side values w g tree e fits is t =
     one-tree side values g tree
-    (within-ends g.n (ranked (weighed_graph side values g)) (ranked g) (ends-weighed side values g) (subst (λ (u : WeightedGraph). AreWithin u.n (ranked u)) e (ranked-within w all))) fits
+    (within-ends g.n (ranked (weighed_graph side values g)) (ranked g) (ends-weighed side values g) (subst (λ (u : WeightedGraph). AreWithin u.n (ranked u)) e (AreWithin-ranked w is))) fits
     (turned-components side values w g tree e fits t)
 
 -- each node of the tree of a flood is above a leaf

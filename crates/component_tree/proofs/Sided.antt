@@ -1,5 +1,5 @@
 -- Both sides: from the min tree of the turned values to the component tree of the values.
-use Rattle.std.proofs.Common.{◌≡◌, ℕ, zero, suc, ◌+◌, ◌-◌, ◌<◌, ◌≤◌, inl, inr, refl, sym, ◌∙◌, subst, ap, arith, List, [], ◌∷◌, length, map, get_or}
+use Rattle.std.proofs.Common.{◌≡◌, ℕ, suc, ◌-◌, ◌<◌, ◌≤◌, inl, inr, refl, sym, ◌∙◌, subst, ap, arith, List, [], ◌∷◌, length, map, get_or}
 use Rattle.std.specs.Prelude.{All}
 use Rattle.std.proofs.lemmas.Bool.{cases_lt}
 use Rattle.std.proofs.lemmas.List.{get_or_past}
@@ -10,7 +10,6 @@ use Rattle.component_tree.specs.declared.side.Side.{Side}
 use Rattle.component_tree.specs.declared.side.Side.TheVariants.{Min, Max}
 use Rattle.component_tree.specs.Components.{ComponentLists, IsComponentTree, level_of}
 use Rattle.component_tree.specs.MinTree.{min_tree, turned, turned_back, value_at, component_tree_of}
-use Rattle.component_tree.specs.Values.{AreValues}
 use Rattle.component_tree.proofs.Unique.{only-one}
 use Rattle.component_tree.proofs.Turning.{turned-tree, min-to_max, max-to_min}
 

@@ -1,5 +1,5 @@
 -- A component sinks to its own level: it is the same at the greatest value of its vertices.
-use Rattle.std.proofs.Common.{◌≡◌, ℕ, ◌<◌, ◌≤◌, true, ◌⊎◌, inl, inr, refl, sym, ◌∙◌, subst, ap, arith, List, [], ◌∷◌}
+use Rattle.std.proofs.Common.{◌≡◌, ℕ, ◌<◌, ◌≤◌, true, inl, inr, sym, subst, ap, arith, List, [], ◌∷◌}
 use Rattle.std.specs.Prelude.{◌&&◌, nat_le}
 use Rattle.std.proofs.lemmas.Bool.{le-leb, leb-true, and_parts, and_from}
 use Rattle.hg_base.specs.Edges.{ListedEdge, EdgeList, IsIn, AreEnds, AreWithin, IsWalk, joined}

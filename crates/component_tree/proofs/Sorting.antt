@@ -1,11 +1,12 @@
 -- The components of a tree's nodes, sorted.
-use Rattle.std.proofs.Common.{◌≡◌, ◌≢◌, ℕ, zero, suc, ◌+◌, ◌<◌, ◌≤◌, ◌==◌, Bool, true, false, inl, inr, refl, sym, ◌∙◌, subst, ap, arith, List, [], ◌∷◌, length, map, get_or}
+use Rattle.std.proofs.Common.{◌≡◌, ◌≢◌, ℕ, zero, suc, ◌<◌, ◌≤◌, ◌==◌, Bool, true, false, inl, inr, refl, sym, ◌∙◌, subst, ap, arith, List, [], ◌∷◌, length, map, get_or}
 use Rattle.std.specs.Prelude.{Some, IsPermutation, IsSorted, slice_get}
 use Rattle.std.specs.List.{IsDistinct}
+use Rattle.std.specs.Cmp.{IsStrictWeakOrder}
 use Rattle.std.specs.Ordering.{nat_cmp, ordering_then, is_lt}
 use Rattle.std.specs.declared.cmp.Ordering.{Ordering}
 use Rattle.std.proofs.lemmas.Cmp.{nat_cmp_total, on_total, then_total}
-use Rattle.std.proofs.lemmas.Bool.{cases_lt, cases_order, lt-ltb, le-ltb, eq-eqb, true≢false}
+use Rattle.std.proofs.lemmas.Bool.{cases_lt, lt-ltb, le-ltb, eq-eqb, true≢false}
 use Rattle.std.proofs.lemmas.Bool.Decides.{eqb_tells}
 use Rattle.std.proofs.lemmas.Option.{get_or_from_slice_get}
 use Rattle.std.proofs.lemmas.List.{length-map}
@@ -15,21 +16,22 @@ use Rattle.std.proofs.lemmas.Map.Keys.{IsDistinct-IsPermutation, IsDistinct-from
 use Rattle.hg_base.specs.Edges.{count_below}
 use Rattle.hg_base.specs.Tree.{ParentTree}
 use Rattle.hg_base.proofs.Nodes.{slice_get-mapped}
-use Rattle.hg_base.proofs.Passing.{passing, passing-at, passing-index, IsPassing, length-passing, count_below-most, count_below-rises}
+use Rattle.hg_base.proofs.Passing.{passing, passing-at, passing-index, length-passing, count_below-most, count_below-rises}
 use Rattle.component_tree.specs.declared.nodes.Component.{Component}
 use Rattle.component_tree.specs.Passes.{is_component, component_at, component_of, IsNoLater, AreComponents}
 
 -- the order of components: by level, then by least vertex, then by node
-abbrev component_cmp : Component → Component → Ordering
+abbrev pub component_cmp : Component → Component → Ordering
 component_cmp x y = ordering_then (nat_cmp x.level y.level) (ordering_then (nat_cmp x.least y.least) (nat_cmp x.node y.node))
 
-abbrev component_lt : Component → Component → Bool
+abbrev pub component_lt : Component → Component → Bool
 component_lt x y = is_lt (component_cmp x y)
 
+pub component-order : IsStrictWeakOrder component_lt
+component-order = ranks_by (then_total (on_total (λ (c : Component). c.level) nat_cmp_total) (then_total (on_total (λ (c : Component). c.least) nat_cmp_total) (on_total (λ (c : Component). c.node) nat_cmp_total))) (λ x. x)
+
 far : (list : List Component) → IsSorted component_cmp list → (i j : ℕ) (d : Component) → i ≤ j → j < length list → component_lt (get_or list j d) (get_or list i d) ≡ false
-far list sorted =
-    sorted_far component_lt
-    (ranks_by (then_total (on_total (λ (c : Component). c.level) nat_cmp_total) (then_total (on_total (λ (c : Component). c.least) nat_cmp_total) (on_total (λ (c : Component). c.node) nat_cmp_total))) (λ x. x)) list sorted
+far list sorted = sorted_far component_lt component-order list sorted
 
 no-later : (a b : Component) → component_lt b a ≡ false → IsNoLater a b
 no-later a b h = record {

@@ -1,11 +1,10 @@
 -- A max tree is the min tree of the values turned over, with its levels turned back, and the other way round.
-use Rattle.std.proofs.Common.{◌≡◌, ◌≢◌, ℕ, zero, suc, ◌+◌, ◌-◌, ◌<◌, ◌≤◌, Bool, true, ◌⊎◌, inl, inr, refl, sym, ◌∙◌, subst, ap, arith, List, [], ◌∷◌, length, map, get_or}
-use Rattle.std.specs.Prelude.{filter, IsTrue, nat_le, ◌&&◌}
-use Rattle.std.specs.List.{range_with_len}
+use Rattle.std.proofs.Common.{◌≡◌, ℕ, ◌-◌, ◌<◌, ◌≤◌, Bool, true, inl, inr, refl, sym, ◌∙◌, subst, ap, arith, List, length, get_or}
+use Rattle.std.specs.Prelude.{IsTrue, nat_le, ◌&&◌}
 use Rattle.std.proofs.lemmas.Bool.{leb-true, le-leb}
 use Rattle.std.proofs.lemmas.List.{get_or-map, length-map}
 use Rattle.std.proofs.lemmas.List.Elements.{filter_agree}
-use Rattle.hg_base.specs.Edges.{ListedEdge, EdgeList, IsIn, component, joined}
+use Rattle.hg_base.specs.Edges.{ListedEdge, EdgeList, IsIn, component}
 use Rattle.hg_base.proofs.Sets.{same_test}
 use Rattle.component_tree.specs.declared.side.Side.{Side}
 use Rattle.component_tree.specs.declared.side.Side.TheVariants.{Min, Max}

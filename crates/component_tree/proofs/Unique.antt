@@ -1,22 +1,21 @@
 -- There is one min tree: whatever is a component tree is the one that the function gives.
-use Rattle.std.proofs.Common.{◌≡◌, ◌≢◌, ℕ, zero, suc, ◌+◌, ◌-◌, ◌<◌, ◌≤◌, Bool, true, false, ◌⊎◌, inl, inr, refl, sym, ◌∙◌, subst, ap, arith, List, [], ◌∷◌, ◌++◌, length, map, get_or}
-use Rattle.std.specs.Prelude.{Option, Some, None, find, unwrap_or, IsTrue, nat_le, ◌&&◌, ◌==◌}
-use Rattle.std.specs.List.{range_with_len, list_any}
-use Rattle.std.proofs.lemmas.Bool.{cases_Bool, cases_order, cases_eq, cases_lt, eqb-true, eq-eqb, leb-true, le-leb, and_parts, and_from, true≢false}
-use Rattle.std.proofs.lemmas.List.{map-append, get_or-map, length-map}
-use Rattle.std.proofs.lemmas.List.FromFn.{length-range_with_len, get_or-range_with_len, length-map-range_with_len, get_or-map-range_with_len}
-use Rattle.hg_base.specs.Edges.{EdgeList, IsIn, AreWithin, component, joined, is_least}
+use Rattle.std.proofs.Common.{◌≡◌, ℕ, zero, suc, ◌+◌, ◌-◌, ◌<◌, ◌≤◌, Bool, true, false, ◌⊎◌, inl, inr, refl, sym, ◌∙◌, subst, ap, arith, List, [], ◌∷◌, ◌++◌, length, map, get_or}
+use Rattle.std.specs.Prelude.{Option, unwrap_or, IsTrue, nat_le, ◌&&◌, ◌==◌}
+use Rattle.std.specs.List.{range_with_len}
+use Rattle.std.proofs.lemmas.Bool.{cases_Bool, cases_eq, cases_lt, eqb-true, eq-eqb, leb-true, le-leb, and_parts, and_from, true≢false}
+use Rattle.std.proofs.lemmas.List.{map-append}
+use Rattle.std.proofs.lemmas.List.FromFn.{length-map-range_with_len, get_or-map-range_with_len}
+use Rattle.hg_base.specs.Edges.{EdgeList, IsIn, AreWithin, component, joined}
 use Rattle.hg_base.proofs.Walks.{IsSame-joined}
-use Rattle.hg_base.proofs.Sets.{same_test}
 use Rattle.hg_base.proofs.Counts.{LeastBelow, least_below, is_least-from, is_least-to}
 use Rattle.hg_base.proofs.Leasts.{map-agree}
 use Rattle.hg_base.proofs.Passing.{passing}
 use Rattle.component_tree.specs.declared.side.Side.TheVariants.{Min}
-use Rattle.component_tree.specs.Components.{ComponentLists, IsComponentNode, IsComponentTree, IsEarlier, Includes, inside, is_in_at, parent_of, level_of}
+use Rattle.component_tree.specs.Components.{ComponentLists, IsComponentNode, IsComponentTree, Includes, inside, parent_of, level_of}
 use Rattle.component_tree.specs.MinTree.{Head, is_head, heads, head_at, vertices_of, has, includes, leaf_place, parent_place, min_tree}
-use Rattle.component_tree.proofs.Members.{Passes, IsIn-range, IsIn-from, IsIn-passing, passing-in, passing-agree, passing-same, passing-first}
-use Rattle.component_tree.proofs.Sinking.{sunk, reach-in, reach-row, reach-higher}
-use Rattle.component_tree.proofs.Heads.{IsIn-map, map-in, any-in, in-any, has-in, in-has, includes-from, includes-to, find-is, find-none, IsBefore, InOrder, order-one, order-values, IsHead, head-parts, parts-head, heads-order, head-in, in-head}
+use Rattle.component_tree.proofs.Members.{Passes, IsIn-range, IsIn-from, IsIn-passing, passing-in, passing-agree, passing-first}
+use Rattle.component_tree.proofs.Sinking.{sunk, reach-in, reach-row}
+use Rattle.component_tree.proofs.Heads.{IsIn-map, map-in, any-in, in-any, has-in, in-has, includes-from, includes-to, find-is, find-none, InOrder, order-one, order-values, IsHead, head-parts, parts-head, heads-order, head-in, in-head}
 
 -- a list is its values one by one
 list-values : (xs : List ℕ) (a : ℕ) (g : ℕ → ℕ) → ((i : ℕ) → i < length xs → get_or xs i 0 ≡ g (a + i)) → xs ≡ map g (range_with_len a (length xs))

@@ -1,6 +1,6 @@
-ghost use Rattle.std.specs.Prelude.{◌≡◌, ℕ, ◌≤◌, ◌++◌, IfOk, OnOk, length, map, All};
+ghost use Rattle.std.specs.Prelude.{◌≡◌, ℕ, ◌≤◌, ◌++◌, IfOk, OnOk, length, map};
 ghost use Rattle.std.specs.List.{range_with_len};
-ghost use Rattle.hg_base.specs.Graph.{WeightedGraph, JoinsTwo};
+ghost use Rattle.hg_base.specs.Graph.{WeightedGraph};
 ghost use Rattle.hg_base.specs.Edges.{EdgeList};
 ghost use Rattle.hg_base.specs.Rank.{ranked};
 ghost use Rattle.hg_base.specs.Tree.{altitude, graph_tree, tree_of};
@@ -56,21 +56,10 @@ fn made(
     ensures components { (g : WeightedGraph) → graph.now ≡ weighed_graph side values.now g →
         IfOk result (λ tree. IsComponentTree side (value_at values.now) g.n (ranked g) tree) }
 {
-    read(graph, values);
-    tree_of_nodes(alloc, values, side, tree)
-}
-
-// Reads each edge, and a value. A graph vouches for the ends of an edge only where it is read.
-fn read(graph: &Graph, values: &Values)
-    requires { length values.now ≡ graph.now.n }
-    ensures ends { All (JoinsTwo graph.now.n) graph.now.edges }
-    ensures values { AreValues values.now }
-{
+    // The graph and the values keep to their limits.
     let _ = graph.n();
     let _ = values.value(0);
-    for e in 0..graph.m() {
-        let _ = graph.edge(e);
-    }
+    tree_of_nodes(alloc, values, side, tree)
 }
 
 // The component tree over the nodes of a tree whose edges weigh the greater value of their ends, as a min tree sees them.

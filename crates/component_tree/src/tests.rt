@@ -5,7 +5,9 @@ ghost use Rattle.hg_base.specs.Worked.{edge};
 ghost use Rattle.partition_tree.specs.Ranked.{IsRankedList, edges_of};
 ghost use Rattle.component_tree.specs.Weighed.{weighed_graph};
 
-use super::{ComponentTree, Side, Values, component_tree, weighed, write_components};
+use super::{
+    ComponentTree, Side, Values, component_tree, components_pieces, weighed, write_components,
+};
 use hg_base::{Edge, Graph};
 use partition_tree::{Ranked, Tree};
 use std::alloc::{AllocError, Global};
@@ -94,6 +96,8 @@ fn min_tree(rt: HostRuntime) -> Result<(), Fail> {
     let text = write_components(rt.alloc(), &tree, Side::Min)?;
     let report = "mintree 7 4\n0 4 0\n1 5 3\n2 5 3\n3 6 9\n4 5 0\n5 6 3\n6 6 9\n";
     assert_eq!(rt; text.as_slice(), report.as_bytes());
+    let pieces = components_pieces(&rt, rt.alloc(), &tree, Side::Min)?;
+    assert_eq!(rt; pieces.joined(rt.alloc())?.as_slice(), report.as_bytes());
     assert_eq!(rt; tree.nodes(), 7);
     assert_eq!(rt; tree.leaves(), 4);
     assert_eq!(rt; tree.parent(4), 5);

@@ -1,7 +1,5 @@
-ghost use Rattle.std.specs.Prelude.{◌≡◌, ◌≤◌, IfOk, length, map, All};
-ghost use Rattle.std.specs.List.{range_with_len};
-ghost use Rattle.hg_base.specs.Graph.{JoinsTwo};
-ghost use Rattle.component_tree.specs.Weighed.{area_at, weight_between, weighed_edge, weighed_graph};
+ghost use Rattle.std.specs.Prelude.{◌≡◌, IfOk, length, map};
+ghost use Rattle.component_tree.specs.Weighed.{weight_between, weighed_edge, weighed_graph};
 
 use crate::side::Side;
 use crate::values::Values;
@@ -44,9 +42,7 @@ fn weight_between(side: Side, a: u32, b: u32) -> u32
 // The edges with the weights of their ends' values.
 fn edges(alloc: Global, graph: &Graph, values: &Values, side: Side) -> Result<Vec<Edge>, AllocError>
     requires { length values.now ≡ graph.now.n }
-    ensures edges { IfOk result (λ edges. edges.items ≡ map (weighed_edge side values.now) graph.now.edges) }
-    ensures ends { IfOk result (λ edges. All (JoinsTwo graph.now.n) edges.items) }
-    ensures few { IfOk result (λ edges. length edges.items ≤ 4194304) }
+    ensures { IfOk result (λ edges. edges.items ≡ map (weighed_edge side values.now) graph.now.edges) }
 {
     let mut edges = Vec::with_capacity(alloc, graph.m() as usize)?;
     for e in 0..graph.m() {
@@ -61,9 +57,7 @@ fn edges(alloc: Global, graph: &Graph, values: &Values, side: Side) -> Result<Ve
 
 // The areas of the vertices.
 fn areas(alloc: Global, graph: &Graph) -> Result<Vec<u32>, AllocError>
-    ensures areas { IfOk result (λ areas. areas.items ≡ map (area_at graph.now) (range_with_len 0 graph.now.n)) }
-    ensures positive { IfOk result (λ areas. All (λ a. 1 ≤ a) areas.items) }
-    ensures small { IfOk result (λ areas. All (λ a. a ≤ 4096) areas.items) }
+    ensures { IfOk result (λ areas. areas.items ≡ graph.now.areas) }
 {
     let mut areas = Vec::with_capacity(alloc, graph.n() as usize)?;
     for v in 0..graph.n() {

@@ -1,4 +1,4 @@
-use Rattle.std.proofs.Common.{ℕ, ◌+◌, ◌<◌, ◌≤◌, arith, length, get_or}
+use Rattle.std.proofs.Common.{◌<◌, ◌≤◌, arith, length, get_or}
 use Rattle.component_tree.proofs.components.push_parents.Goals as goal
 
 pub overflow_add-leaves : goal.overflow_add-leaves

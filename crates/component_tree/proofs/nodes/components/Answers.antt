@@ -1,4 +1,4 @@
-use Rattle.std.proofs.Common.{◌≤◌, subst, length}
+use Rattle.std.proofs.Common.{subst}
 use Rattle.std.specs.Prelude.{IsPermutation, List}
 use Rattle.component_tree.specs.declared.nodes.Component.{Component}
 use Rattle.component_tree.proofs.Sorting.{sorted-components}

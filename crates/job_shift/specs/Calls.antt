@@ -1,0 +1,31 @@
+-- What the calls of a shift answer.
+use Rattle.std.specs.Prelude.{◌≡◌, ◌≢◌, ℕ, ◌<◌, List}
+use mathlib.Core.Option.{some}
+use lib.ListN.{get_elem?}
+use Rattle.job_shift.specs.Times.{times, times_out}
+use Rattle.job_shift.specs.Plays.{Moment}
+use Rattle.job_shift.specs.Hands.{HandState, handed, with_job, missing}
+use Rattle.job_shift.specs.declared.view.HandView.{HandView}
+
+-- The hand got number n: at its step just the lesser numbers had been handed out, each once.
+pub record Gets (old new : HandView) (n : ℕ) : Type 0 where
+  pub view : new ≡ with_job old n
+  pub below : n < old.count
+  pub moment : Moment old n
+  pub lesser : (j : ℕ) → j < n → times_out moment.state.views j ≡ 1
+  pub fresh : times_out moment.state.views n ≡ 0
+
+-- The hand missed: at its step all numbers had been handed out, each once.
+pub record Misses (old new : HandView) : Type 0 where
+  pub view : new ≡ missing old new.found
+  pub moment : Moment old new.found
+  pub all : (j : ℕ) → j < old.count → times_out moment.state.views j ≡ 1
+
+-- Number i stands once in the list of one of the hands, whose number is n, and in the list of no other.
+pub record IsHandedTo (hands : List HandState) (i n : ℕ) : Type 0 where
+  pub place : ℕ
+  pub hand : HandState
+  pub stands : get_elem? hands place ≡ some hand
+  pub number : hand.view.number ≡ n
+  pub once : times i (handed hand) ≡ 1
+  pub others : (k : ℕ) (other : HandState) → get_elem? hands k ≡ some other → k ≢ place → times i (handed other) ≡ 0

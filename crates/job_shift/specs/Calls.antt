@@ -4,8 +4,17 @@ use mathlib.Core.Option.{some}
 use lib.ListN.{get_elem?}
 use Rattle.job_shift.specs.Times.{times, times_out}
 use Rattle.job_shift.specs.Plays.{Moment}
-use Rattle.job_shift.specs.Hands.{HandState, handed, with_job, missing}
+use Rattle.job_shift.specs.Shift.{ShiftTable, IsShift, Shows, steps}
+use Rattle.job_shift.specs.Hands.{HandState, ShiftState, handed, with_job, missing}
 use Rattle.job_shift.specs.declared.view.HandView.{HandView}
+
+-- each view of the table is that of one of these hands
+abbrev pub AreShown : ShiftTable → List HandState → Type 0
+AreShown s hands = (k : ℕ) (v : HandView) → Shows s k v → (place : ℕ) × ((hand : HandState) × ((get_elem? hands place ≡ some hand) × (hand.view ≡ v)))
+
+-- While these are all hands of the shift, no number was handed out: no step was made.
+abbrev pub IsUnstarted : List HandState → ShiftState → Type 0
+IsUnstarted hands shift = (s : ShiftTable) → IsShift shift.count shift.workers s → AreShown s hands → steps s ≡ 0
 
 -- The hand got number n: at its step just the lesser numbers had been handed out, each once.
 pub record Gets (old new : HandView) (n : ℕ) : Type 0 where

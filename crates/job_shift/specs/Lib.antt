@@ -4,3 +4,4 @@ pub mod Hands
 pub mod Plays
 pub mod Calls
 pub mod Fields
+pub mod Finishing

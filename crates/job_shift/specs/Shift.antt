@@ -18,7 +18,8 @@ steps s = slice_index s.words 0
 abbrev pub Shows : ShiftTable → ℕ → HandView → Type 0
 Shows s k v = get_elem? s.views k ≡ some v
 
--- The rule of a shift of so many jobs and workers. A view that was left over by a join has share 0.
+-- The rule of a shift of so many jobs and workers. Share 0 marks a view that was left over by a join: it has no pairs, and
+-- each other view has a share of at least 1.
 pub record IsShift (count workers : ℕ) (s : ShiftTable) : Type 0 where
   pub some_job : 1 ≤ count
   pub few_jobs : count ≤ 4096
@@ -30,7 +31,7 @@ pub record IsShift (count workers : ℕ) (s : ShiftTable) : Type 0 where
   pub not_yet : (j : ℕ) → steps s ≤ j → times_out s.views j ≡ 0
   pub no_job : (j : ℕ) → count ≤ j → times_out s.views j ≡ 0
   pub pairs : total pair_count s.views ≤ steps s
-  -- the shares sum to the number of workers; what was left over has no pairs, and the others know the shift's numbers
+  -- the shares sum to the number of workers, and each hand knows the shift's numbers
   pub shares : total (λ v. v.share) s.views ≡ workers
   pub left_over : (k : ℕ) (v : HandView) → Shows s k v → v.share ≡ 0 → v.pairs ≡ []
   pub known : (k : ℕ) (v : HandView) → Shows s k v → 1 ≤ v.share → (v.count ≡ count) × (v.workers ≡ workers)

@@ -4,7 +4,7 @@
 //! number, the split of a hand and the join of two.
 ghost use Rattle.std.specs.Prelude.{◌≡◌, ℕ, ◌+◌, ◌%◌, ◌^◌, ◌<◌, ◌≤◌, [], ◌∷◌, true, false};
 ghost use Rattle.atomic_table.specs.Table.{Allows, Splits, Joins, opening};
-ghost use Rattle.job_shift.specs.Shift.{ShiftTable, IsShift, IsPairOf, steps};
+ghost use Rattle.job_shift.specs.Shift.{ShiftTable, IsShift, IsPairOf, Shows, steps};
 ghost use Rattle.job_shift.specs.Hands.{first_view, split_left, split_right, joined, left_over};
 ghost use Rattle.job_shift.specs.Plays.{Hold, Steps};
 ghost use Rattle.job_shift.specs.declared.view.HandView.{HandView};
@@ -28,9 +28,10 @@ pub fn hands_keep_the_rule()
 {}
 
 /// At every moment the numbers that were handed out are those of jobs and are distinct, and they are the first so many
-/// as there were steps.
+/// as there were steps; where none was handed out, there was no step.
 pub fn numbers_of_a_shift()
     ensures jobs { (count workers k a j : ℕ) (s : ShiftTable) → IsShift count workers s → IsPairOf s k a j → (j < count) × (j < steps s) }
     ensures distinct { (count workers k l a b j : ℕ) (s : ShiftTable) → IsShift count workers s → IsPairOf s k a j → IsPairOf s l b j → (k ≡ l) × (a ≡ b) }
     ensures all { (count workers j : ℕ) (s : ShiftTable) → IsShift count workers s → j < count → j < steps s → (k : ℕ) × ((a : ℕ) × IsPairOf s k a j) }
+    ensures none { (count workers : ℕ) (s : ShiftTable) → IsShift count workers s → ((k : ℕ) (v : HandView) → Shows s k v → v.pairs ≡ []) → steps s ≡ 0 }
 {}

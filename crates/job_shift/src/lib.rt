@@ -1,11 +1,13 @@
 //! Numbers of jobs that workers draw, each once, in any order of their steps; and the jobs done by them.
 #![tactic(auto)]
 
+mod finishing;
 mod hand;
 mod jobs;
 pub mod laws;
 mod rule;
 mod shift;
+mod starting;
 mod view;
 
 pub use hand::Hand;

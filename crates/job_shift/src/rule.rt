@@ -6,9 +6,9 @@ use crate::view::{HandView, Key};
 use atomic_table::{Join, Play, Split, TableRule};
 
 // The rule of a shift.
-pub(crate) struct Order;
+pub(crate) struct ShiftRule;
 
-impl TableRule<(), HandView, Key> for Order {
+impl TableRule<(), HandView, Key> for ShiftRule {
     ghost holds = { rule_of };
 
     ghost first = { first_of };

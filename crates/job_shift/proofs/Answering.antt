@@ -1,9 +1,8 @@
 -- The end of a shift: one seat has all numbers, and the answer has the hand of each.
 use Rattle.std.proofs.Common.{◌≡◌, ◌≢◌, ℕ, zero, suc, ◌+◌, ◌<◌, ◌≤◌, inl, inr, refl, sym, ◌∙◌, subst, ap, arith, true, List, [], ◌∷◌, ◌++◌, length, map}
 use Rattle.std.proofs.lemmas.Bool.{cases_eq}
-use Rattle.std.proofs.lemmas.List.{length-append, length-set, map-append, get_or-set_same, get_or-set_other}
-use Rattle.std.proofs.lemmas.List.Elements.{All-nil, All-cons, All-head, All-tail}
-use Rattle.std.specs.Prelude.{All, slice_index, slice_set}
+use Rattle.std.proofs.lemmas.List.{length-set, map-append, get_or-set_same, get_or-set_other}
+use Rattle.std.specs.Prelude.{slice_index, slice_set}
 use mathlib.Core.Option.{some, some-injective, some-ne-none}
 use lib.ListN.{get_elem?}
 use Rattle.atomic_table.specs.Table.{Final, Seen}
@@ -110,24 +109,6 @@ entered_to (h ∷ hs) xs i low once = elim (cases_eq (times i (handed h)) 0) [
   }
   | inl none ↦ later h hs i _ none (entered_to hs (with_each h.view.number (handed h) xs) i (let l = length-with_each h.view.number (handed h) xs in omega arith) (omega arith))
 ]
-
--- what holds of all of a list holds of its front and of its last
-front_all : (P : HandState → Type 0) (xs : List HandState) (x : HandState) → All P (xs ++ x ∷ []) → All P xs
-front_all P [] x a = All-nil P
-front_all P (y ∷ ys) x a = All-cons P y ys (All-head P y (ys ++ x ∷ []) a) (front_all P ys x (All-tail P y (ys ++ x ∷ []) a))
-
-last_all : (P : HandState → Type 0) (xs : List HandState) (x : HandState) → All P (xs ++ x ∷ []) → P x
-last_all P [] x a = All-head P x [] a
-last_all P (y ∷ ys) x a = last_all P ys x (All-tail P y (ys ++ x ∷ []) a)
-
-pub popped_front : (P : HandState → Type 0) (hands left : List HandState) (hand : HandState) → hands ≡ left ++ hand ∷ [] → All P hands → All P left
-popped_front P hands left hand e a = front_all P left hand (subst (λ (l : List HandState). All P l) e a)
-
-pub popped_last : (P : HandState → Type 0) (hands left : List HandState) (hand : HandState) → hands ≡ left ++ hand ∷ [] → All P hands → P hand
-popped_last P hands left hand e a = last_all P left hand (subst (λ (l : List HandState). All P l) e a)
-
-pub popped_length : (hands left : List HandState) (hand : HandState) → hands ≡ left ++ hand ∷ [] → length hands ≡ length left + 1
-popped_length hands left hand e = ap (λ (l : List HandState). length l) e ∙ length-append left (hand ∷ [])
 
 pub popped_among : (hands left : List HandState) (hand : HandState) (j : ℕ) → hands ≡ left ++ hand ∷ [] → handed_among hands j ≡ handed_among left j + times j (handed hand)
 popped_among hands left hand j e = ap (λ (l : List HandState). handed_among l j) e ∙ handed_among-snoc left hand j

@@ -6,3 +6,6 @@ pub mod Drawing
 pub mod Numbers
 pub mod Answering
 pub mod Fresh
+pub mod Popped
+pub mod Doing
+pub mod Places

@@ -5,3 +5,5 @@ pub mod Plays
 pub mod Calls
 pub mod Fields
 pub mod Finishing
+pub mod Doing
+pub mod Placing

@@ -2,6 +2,10 @@
 ghost use Rattle.std.specs.Prelude.{◌≡◌, ◌<◌, ◌≤◌, Some, IfOk, length, slice_get};
 ghost use Rattle.std.specs.List.{concat};
 
+use crate::crew::{crew_of, disband};
+use crate::placing::{end_to_end, placed};
+use crate::shift::Shift;
+use crate::working::work_all;
 use hg_base::OutOfMemory;
 use std::alloc::Global;
 use std::thread::Threads;
@@ -42,8 +46,12 @@ pub fn run_jobs<J: Job>(
     requires few_workers { workers ≤ 64 }
     ensures { IfOk result (λ bytes. bytes.items ≡ concat (J.texts jobs.now)) }
 {
-    let _ = rt;
-    let _ = alloc;
-    let _ = jobs;
-    Err(OutOfMemory)
+    let count = jobs.count();
+    let (shift, hands) = Shift::start(alloc, count, workers)?;
+    let mut crew = crew_of(alloc, &shift, hands)?;
+    work_all(rt, alloc, &shift, jobs, crew.as_mut_slice());
+    let (hands, done) = disband(alloc, crew)?;
+    let texts = placed(alloc, count, done)?;
+    shift.finish(hands);
+    end_to_end(alloc, &texts)
 }

@@ -3,7 +3,8 @@ use Rattle.job_shift.specs.Times.{times, jobs}
 use Rattle.job_shift.specs.Hands.{HasMissed, handed}
 use Rattle.job_shift.specs.Finishing.{IsHandAt}
 use Rattle.job_shift.specs.declared.view.HandView.{HandView}
-use Rattle.job_shift.proofs.Answering.{popped_front, popped_last, popped_length, popped_among, times-joined}
+use Rattle.job_shift.proofs.Popped.{popped_front, popped_last, popped_length}
+use Rattle.job_shift.proofs.Answering.{popped_among, times-joined}
 use Rattle.job_shift.proofs.finishing.one_for_all.Goals as goal
 
 pub loop-other-init : goal.loop-other-init

@@ -1,0 +1,6 @@
+pub mod Pieces
+pub mod Batch
+pub mod Ending
+pub mod Getting
+pub mod Cutting
+pub mod Running

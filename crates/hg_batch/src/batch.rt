@@ -1,0 +1,40 @@
+// The jobs of a batch.
+ghost use Rattle.std.specs.Prelude.{◌≡◌, ◌<◌, ◌≤◌, IfOk, Some, length, slice_get};
+ghost use Rattle.higra_cli.specs.Running.{CanReport};
+
+use super::cutting::Piece;
+use super::texts::text_of;
+use hg_base::OutOfMemory;
+use higra_cli::Request;
+use job_shift::Job;
+use std::alloc::Global;
+use std::thread::Threads;
+
+// The pieces of an input, and what is asked for of each.
+#[derive(Drop)]
+pub(crate) struct Batch {
+    pub(crate) request: Request,
+    pub(crate) pieces: Vec<Piece>,
+    ghost can: { CanReport request },
+    ghost few: { length pieces.items ≤ 4096 },
+}
+
+impl Job for Batch {
+    ghost use Rattle.hg_batch.specs.Batch.{texts_from};
+    ghost use Rattle.hg_batch.specs.Cutting.{values};
+
+    ghost texts = { λ b. texts_from b.request 0 (values b.pieces.items) };
+
+    fn text<R: Threads + Sync>(
+        &self,
+        rt: &R,
+        alloc: Global,
+        job: u32,
+    ) -> Result<Vec<u8>, OutOfMemory> {
+        text_of(rt, alloc, &self.request, job, &self.pieces[job as usize])
+    }
+
+    fn count(&self) -> u32 {
+        self.pieces.len() as u32
+    }
+}

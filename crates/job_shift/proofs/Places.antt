@@ -10,7 +10,7 @@ use Rattle.std.specs.declared.alloc.Global.{Global}
 use mathlib.Core.Option.{some, some-injective, some-ne-none}
 use lib.ListN.{get_elem?}
 use Rattle.job_shift.specs.Times.{times}
-use Rattle.job_shift.specs.Hands.{HandState, ShiftState, IsFresh, handed}
+use Rattle.job_shift.specs.Hands.{HandState, ShiftState, handed}
 use Rattle.job_shift.specs.Calls.{IsHandedTo}
 use Rattle.job_shift.specs.Finishing.{handed_among}
 use Rattle.job_shift.specs.Doing.{AreTexts, HaveDone, done_jobs}
@@ -19,7 +19,7 @@ use Rattle.job_shift.specs.declared.working.Done.{Done}
 use Rattle.job_shift.proofs.Sums.{one_if, one_if-other, times-append}
 use Rattle.job_shift.proofs.Popped.{popped_front, popped_last}
 
-abbrev Texts : Type 0
+abbrev pub Texts : Type 0
 Texts = List (Vec ℕ Global)
 
 -- what stands at a place that was set, and at the others
@@ -90,13 +90,6 @@ one_more texts i t bytes more low is old e =
     let c : (get_or texts i t).items ++ [] ≡ t.items = append-nil (get_or texts i t).items ∙ ap (λ (x : Vec ℕ Global). x.items) (sym is) in
     e ∙ ap (λ (l : List ℕ). l ++ t.items) old ∙ sym (a ∙ b ∙ ap (λ (l : List ℕ). concat (texts_of (take i texts)) ++ l) c)
 
--- hands that got nothing
-fresh_among : (hands : List HandState) (j : ℕ) → All IsFresh hands → handed_among hands j ≡ 0
-fresh_among [] j a = refl
-fresh_among (h ∷ hs) j a =
-    let here : times j (handed h) ≡ 0 = ap (λ (l : List ℕ). times j l) (a 0 h (omega arith)).0 in
-    let rest = fresh_among hs j (λ k d l. a (suc k) d (omega arith)) in omega arith
-
 -- a hand got no more than all
 among_has : (hands : List HandState) (k j : ℕ) (h : HandState) → get_elem? hands k ≡ some h → times j (handed h) ≤ handed_among hands j
 among_has [] k j h e = absurd (some-ne-none h (sym e))
@@ -104,13 +97,13 @@ among_has (g ∷ gs) zero j h e = let same : times j (handed g) ≡ times j (han
 among_has (g ∷ gs) (suc k) j h e = let rest = among_has gs k j h e in omega arith
 
 -- a number that was handed to one of the hands was done
-was_done : (texts : List (List ℕ)) (shift : ShiftState) (old new : List HandState) (done : List Done) (j n : ℕ) → All IsFresh old → HaveDone texts shift old new done → IsHandedTo new j n → 1 ≤ times j (done_jobs done)
-was_done texts shift old new done j n fresh have to =
-    let a = fresh_among old j fresh in let b = have.jobs j in let c = among_has new to.place j to.hand to.stands in let d = to.once in omega arith
+was_done : (texts : List (List ℕ)) (shift : ShiftState) (new : List HandState) (done : List Done) (j n : ℕ) → HaveDone texts shift [] new done → IsHandedTo new j n → 1 ≤ times j (done_jobs done)
+was_done texts shift new done j n have to =
+    let b = have.jobs j in let c = among_has new to.place j to.hand to.stands in let d = to.once in omega arith
 
 -- all places have their texts
-pub all_texts : (texts : List (List ℕ)) (shift : ShiftState) (old new : List HandState) (done : List Done) (places : Texts) (answer : ℕ → ℕ) → All IsFresh old → HaveDone texts shift old new done
+pub all_texts : (texts : List (List ℕ)) (shift : ShiftState) (new : List HandState) (done : List Done) (places : Texts) (answer : ℕ → ℕ) → HaveDone texts shift [] new done
     → length places ≡ length texts → ((j : ℕ) → 1 ≤ times j (done_jobs done) → slice_get (texts_of places) j ≡ slice_get texts j) → ((i : ℕ) → i < length texts → IsHandedTo new i (answer i)) → texts_of places ≡ texts
-all_texts texts shift old new done places answer fresh have long placed to =
+all_texts texts shift new done places answer have long placed to =
     same_lists (texts_of places) texts (length-map places (λ (t : Vec ℕ Global). t.items) ∙ long)
-    (λ k low. placed k (was_done texts shift old new done k (answer k) fresh have (to k (let l = length-map places (λ (t : Vec ℕ Global). t.items) in omega arith))))
+    (λ k low. placed k (was_done texts shift new done k (answer k) have (to k (let l = length-map places (λ (t : Vec ℕ Global). t.items) in omega arith))))

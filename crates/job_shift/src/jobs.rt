@@ -5,7 +5,7 @@ ghost use Rattle.std.specs.List.{concat};
 use crate::crew::{crew_of, disband};
 use crate::placing::{end_to_end, placed};
 use crate::shift::Shift;
-use crate::working::work_all;
+use crate::working::put_to_work;
 use hg_base::OutOfMemory;
 use std::alloc::Global;
 use std::thread::Threads;
@@ -49,7 +49,7 @@ pub fn run_jobs<J: Job>(
     let count = jobs.count();
     let (shift, hands) = Shift::start(alloc, count, workers)?;
     let mut crew = crew_of(alloc, &shift, hands)?;
-    work_all(rt, alloc, &shift, jobs, crew.as_mut_slice());
+    put_to_work(rt, alloc, &shift, jobs, &mut crew);
     let (hands, done) = disband(alloc, crew)?;
     let texts = placed(alloc, count, done)?;
     shift.finish(hands);

@@ -19,18 +19,18 @@ pub(crate) fn placed(
     ensures placed { IfOk result (λ places. (texts : List (List ℕ)) (j : ℕ) → AreTexts texts done.items → 1 ≤ times j (done_jobs done.items) → slice_get (texts_of places.items) j ≡ slice_get texts j) }
 {
     let mut places = empty_places(alloc, count)?;
-    while let Some(Done { job, text }) = done.pop() {
-        place(places.as_mut_slice(), job, text);
+    while let Some(one) = done.pop() {
+        place(&mut places, one);
     }
     Ok(places)
 }
 
 // Puts a text at the place of its job.
-fn place(places: &mut [Vec<u8>], job: u32, text: Vec<u8>)
-    requires { job < length places.old }
-    ensures { places.new ≡ slice_set places.old job text }
+fn place(places: &mut Vec<Vec<u8>>, done: Done)
+    requires { done.job < length places.old.items }
+    ensures { places.new.items ≡ slice_set places.old.items done.job done.text }
 {
-    places[job as usize] = text;
+    places[done.job as usize] = done.text;
 }
 
 // So many places without a text.
@@ -38,7 +38,7 @@ fn empty_places(alloc: Global, count: u32) -> Result<Vec<Vec<u8>>, OutOfMemory>
     ensures { IfOk result (λ places. length places.items ≡ count) }
 {
     let mut places = Vec::with_capacity(alloc, count as usize).map_err(|_| OutOfMemory)?;
-    for _place in 0..count {
+    for _ in 0..count {
         places.push(Vec::new(alloc)).map_err(|_| OutOfMemory)?;
     }
     Ok(places)

@@ -67,7 +67,7 @@ fn work_through<R: Threads + Sync, J: Job>(
 }
 
 // Has each of these workers do jobs until its hand misses, in a thread of its own where one can be had.
-pub(crate) fn work_all<R: Threads + Sync, J: Job>(
+fn work_all<R: Threads + Sync, J: Job>(
     rt: &R,
     alloc: Global,
     shift: &Shift,
@@ -96,4 +96,19 @@ pub(crate) fn work_all<R: Threads + Sync, J: Job>(
             );
         }
     }
+}
+
+// Has a whole crew do jobs until the hand of each has missed.
+pub(crate) fn put_to_work<J: Job>(
+    rt: &(impl Threads + Sync),
+    alloc: Global,
+    shift: &Shift,
+    jobs: &J,
+    crew: &mut Vec<Worker>,
+)
+    requires count { shift.now.count ≡ length (J.texts jobs.now) }
+    requires ready { All (IsReady shift.now) crew.old.items }
+    ensures { HaveWorked (J.texts jobs.now) shift.now crew.old.items crew.new.items }
+{
+    work_all(rt, alloc, shift, jobs, crew.as_mut_slice());
 }

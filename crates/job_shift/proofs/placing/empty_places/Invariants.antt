@@ -1,5 +1,5 @@
 use Rattle.std.proofs.Common.{◌≡◌, length}
 use Rattle.job_shift.proofs.placing.empty_places.Given as goal
 
-abbrev pub invariant-loop-_place : goal.invariant-loop-_place
-invariant-loop-_place l = length l.places.items ≡ l._place
+abbrev pub invariant-loop : goal.invariant-loop
+invariant-loop l = length l.places.items ≡ l.counter

@@ -1,13 +1,11 @@
 // The jobs of a batch.
-ghost use Rattle.std.specs.Prelude.{◌≡◌, ◌<◌, ◌≤◌, IfOk, Some, length, slice_get};
-ghost use Rattle.higra_cli.specs.Running.{CanReport};
-
 use super::cutting::Piece;
 use super::texts::text_of;
 use hg_base::OutOfMemory;
 use higra_cli::Request;
 use job_shift::Job;
 use std::alloc::Global;
+use std::marker::Model;
 use std::thread::Threads;
 
 // The pieces of an input, and what is asked for of each.
@@ -15,15 +13,24 @@ use std::thread::Threads;
 pub(crate) struct Batch {
     pub(crate) request: Request,
     pub(crate) pieces: Vec<Piece>,
-    ghost can: { CanReport request },
-    ghost few: { length pieces.items ≤ 4096 },
+}
+
+impl Model for Batch {
+    ghost use Rattle.hg_batch.specs.Jobs.{BatchState};
+
+    ghost Value = { BatchState };
+
+    ghost use Rattle.hg_batch.specs.JobsFields.{state_of, IsBatch};
+
+    ghost view = { state_of };
+
+    ghost invariant = { IsBatch };
 }
 
 impl Job for Batch {
     ghost use Rattle.hg_batch.specs.Batch.{texts_from};
-    ghost use Rattle.hg_batch.specs.Cutting.{values};
 
-    ghost texts = { λ b. texts_from b.request 0 (values b.pieces.items) };
+    ghost texts = { λ b. texts_from b.request 0 b.pieces };
 
     fn text<R: Threads + Sync>(
         &self,

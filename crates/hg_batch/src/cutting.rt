@@ -1,6 +1,6 @@
 // The pieces of an input, each read as an edge list.
-ghost use Rattle.std.specs.Prelude.{◌≡◌, ◌+◌, ◌≤◌, IfOk, length, map, sum};
-ghost use Rattle.hg_batch.specs.Pieces.{all_vertices, pieces, reading, readings};
+ghost use Rattle.std.specs.Prelude.{◌≡◌, ◌==◌, ◌≤◌, IfOk, count_by, length};
+ghost use Rattle.hg_batch.specs.Pieces.{all_vertices, pieces, reading, readings, vertices};
 ghost use Rattle.hg_batch.specs.Cutting.{reads, values};
 
 use graph_reader::read_graph;
@@ -19,11 +19,21 @@ pub(crate) enum Piece {
 }
 
 // How many pieces the input has.
+#[tactic(auto, using(crate::proofs::PieceLemmas::count_pieces))]
 pub(crate) fn piece_count(bytes: &[u8]) -> usize
     requires { length bytes.now ≤ 134217728 }
     ensures { result ≡ length (pieces bytes.now) }
 {
-    bytes.iter().filter(|byte| **byte == FORM_FEED).count() + 1
+    cut_count(bytes) + 1
+}
+
+// How many form feeds the input has.
+fn cut_count(bytes: &[u8]) -> usize
+    requires { length bytes.now ≤ 134217728 }
+    ensures count { result ≡ count_by (λ b. b == 12) bytes.now }
+    ensures few { result ≤ length bytes.now }
+{
+    bytes.iter().filter(|byte| **byte == FORM_FEED).count()
 }
 
 // Reads all pieces of the input.
@@ -69,7 +79,7 @@ pub(crate) fn vertex_count(pieces: &[Piece]) -> u64
 
 // How many vertices a piece has that is an edge list.
 fn vertices_of(piece: &Piece) -> u64
-    ensures count { result ≡ all_vertices (reads piece.now ∷ []) }
+    ensures count { result ≡ vertices (reads piece.now) }
     ensures few { result ≤ 1048576 }
 {
     match piece {

@@ -23,10 +23,7 @@ const TOO_LONG: InputFault = InputFault {
 
 /// Reads the source to its end, or one byte past the most bytes of an input. An error is the status with which the
 /// batch ends.
-pub(crate) fn read_all<S: Source>(
-    alloc: Global,
-    source: &mut S,
-) -> Result<Vec<u8>, BatchStatus>
+pub(crate) fn read_all<S: Source>(alloc: Global, source: &mut S) -> Result<Vec<u8>, BatchStatus>
     ensures gets { Gets (told (S.left source.old) (S.faults source.old)) (told (S.left source.new) (S.faults source.new)) result }
     ensures most { GaveAtMost 134217729 (S.left source.old) (S.left source.new) }
 {

@@ -59,13 +59,32 @@ fn two_lists(rt: HostRuntime) -> Result<(), Fail> {
 #[test]
 fn refused_or_empty(rt: HostRuntime) -> Result<(), Fail> {
     let alloc = rt.alloc();
-    runs(&rt, alloc, &["tree"], b"", (0, "job 0 3 1 UnknownForm 0 0\n", ""))?;
+    runs(
+        &rt,
+        alloc,
+        &["tree"],
+        b"",
+        (0, "job 0 3 1 UnknownForm 0 0\n", ""),
+    )?;
     let cuts = Vec::from_elem(alloc, 12u8, 4096)?;
     let line = "higra: input 15 TooManyJobs at 0 value 4097\n";
     runs(&rt, alloc, &["tree"], &cuts, (3, "", line))?;
-    let large = b"graph 1048576 0\x0cgraph 1048576 0\x0cgraph 1048576 0\x0cgraph 1048576 0\x0cgraph 1048576 0";
+    let large =
+        b"graph 1048576 0\x0cgraph 1048576 0\x0cgraph 1048576 0\x0cgraph 1048576 0\x0cgraph 1048576 0";
     let line = "higra: input 16 TooManyVertices at 0 value 5242880\n";
     runs(&rt, alloc, &["tree"], large, (3, "", line))?;
-    runs(&rt, alloc, &["cut", "--form", "pgm"], TWO.as_bytes(), (2, "", "higra: usage\n"))?;
-    runs(&rt, alloc, &["tree", "--make", "2"], TWO.as_bytes(), (2, "", "higra: usage\n"))
+    runs(
+        &rt,
+        alloc,
+        &["cut", "--form", "pgm"],
+        TWO.as_bytes(),
+        (2, "", "higra: usage\n"),
+    )?;
+    runs(
+        &rt,
+        alloc,
+        &["tree", "--make", "2"],
+        TWO.as_bytes(),
+        (2, "", "higra: usage\n"),
+    )
 }

@@ -12,6 +12,7 @@ use std::alloc::{AllocError, Global};
 use std::thread::Threads;
 
 /// The text of job `job`, whose piece this is: its line, and its report where there is one.
+#[tactic(auto, unfolding(crate::specs::Batch::job_text))]
 pub(crate) fn text_of(
     rt: &(impl Threads + Sync),
     alloc: Global,

@@ -20,7 +20,7 @@ mod writing;
 
 pub use ending::Status;
 pub use input::Input;
-pub use line::FaultLine;
+pub use line::{FaultLine, kind_name};
 pub use request::{Form, Kind, Made, Report, Request, WordsFault, request_of};
 pub use running::run;
 pub use words::Words;

@@ -77,7 +77,7 @@ impl FaultLine {
         line.put_text("higra: input ");
         line.put_number(u64::from(fault.kind.number()));
         line.put(b' ');
-        line.put_text(name(fault.kind));
+        line.put_text(kind_name(fault.kind));
         line.put_text(" at ");
         line.put_number(fault.at);
         line.put_text(" value ");
@@ -120,8 +120,8 @@ impl FaultLine {
     }
 }
 
-// The name of a kind of fault.
-fn name(kind: FaultKind) -> &'static str
+/// The name of a kind of fault.
+pub fn kind_name(kind: FaultKind) -> &'static str
     ensures { result.now ≡ name_of kind }
 {
     match kind {

@@ -1,0 +1,11 @@
+pub mod Sums
+pub mod Views
+pub mod Stepping
+pub mod Joining
+pub mod Drawing
+pub mod Numbers
+pub mod Answering
+pub mod Fresh
+pub mod Popped
+pub mod Doing
+pub mod Places

@@ -1,0 +1,9 @@
+pub mod Times
+pub mod Shift
+pub mod Hands
+pub mod Plays
+pub mod Calls
+pub mod Fields
+pub mod Finishing
+pub mod Doing
+pub mod Placing

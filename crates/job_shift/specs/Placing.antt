@@ -1,0 +1,7 @@
+-- Texts at the places of their jobs.
+use Rattle.std.specs.Prelude.{ℕ, List, map, Vec}
+use Rattle.std.specs.declared.alloc.Global.{Global}
+
+-- the bytes of each text
+abbrev pub texts_of : List (Vec ℕ Global) → List (List ℕ)
+texts_of texts = map (λ (t : Vec ℕ Global). t.items) texts

@@ -1,5 +1,5 @@
 -- The way up: what a climb meets, step by step.
-use Rattle.std.proofs.Common.{◌≡◌, ℕ, zero, ◌<◌, ◌≤◌, ◌-◌, ◌^◌, ◌⊎◌, inl, inr, refl, sym, ◌∙◌, subst, ap, arith, cond, Bool, ◌==◌}
+use Rattle.std.proofs.Common.{◌≡◌, ℕ, zero, ◌<◌, ◌≤◌, ◌-◌, ◌^◌, inl, inr, refl, sym, ◌∙◌, subst, ap, arith, cond, Bool, ◌==◌}
 use Rattle.std.specs.Prelude.{Option, Some, None, IfSome}
 use Rattle.std.proofs.lemmas.Bool.{cases_Bool, eqb-true}
 use Rattle.node_region.specs.Pool.{CellPool, IsCovered, IsUsed, cell_at, leaf_of, turn_of, hint_of, finger_of, hinted_cell}
@@ -10,7 +10,7 @@ use Rattle.border_climb.specs.Stands.{IsMet}
 use Rattle.border_climb.specs.Linked.{HasRank}
 use Rattle.border_climb.specs.Notes.{IsSound, IsClimbable, IsNoted}
 use Rattle.border_climb.specs.Climbs.{Ends, IsBelow, IsNamed, IsFurther, IsReached, IsClimbed, IsStart, IsTopCell}
-use Rattle.border_climb.proofs.Pools.{SameLinks, met-same, rank-same, met-on, met-join, met-rises, one-cell, used-from}
+use Rattle.border_climb.proofs.Pools.{SameLinks, met-same, rank-same, met-on, met-join, met-rises, one-cell, used-from, some-map}
 
 -- what a note means that is found
 pub named-found : (pool : CellPool) (mark : Option Hint) (h : Hint) (c : Cell) → mark ≡ Some h → hinted_cell pool h ≡ Some c → h.turn < 2 ^ 32 - 1 → IsNamed pool mark (record { id = h.cell; rank = c.rank })
@@ -104,20 +104,9 @@ pub record IsClimbing (old new : CellPool) (start here : Met) (r : ℕ) (waiting
   pub waits : IfSome waiting (λ w. (start.rank ≤ w.rank) × IsFurther old w here)
 
 -- which cell waits then leads to the next
-pub waiting-further : (old new : CellPool) (start here : Met) (r : ℕ) (waiting kept : Option Met) (next : Met) → IsClimbing old new start here r waiting → IsFurther old here next →
-    IfSome kept (λ low. (waiting ≡ Some low) ⊎ (low ≡ here)) → IfSome kept (λ low. (start.rank ≤ low.rank) × IsFurther old low next)
-waiting-further old new start here r waiting None next k f h = tt
-waiting-further old new start here r waiting (Some low) next k f (inl same) =
-    let w : IfSome (Some low) (λ y. (start.rank ≤ y.rank) × IsFurther old y here) = subst (λ (o : Option Met). IfSome o (λ y. (start.rank ≤ y.rank) × IsFurther old y here)) same k.waits in
-    (w.0, further-on old low here next w.1 f)
-waiting-further old new start here r waiting (Some low) next k f (inr same) =
-    let at : start.rank ≤ here.rank = k.reached.from in
-    (subst (λ (y : Met). start.rank ≤ y.rank) (sym same) at, subst (λ (y : Met). IsFurther old y next) (sym same) f)
-
--- of these, those that still wait
-pub still-waits : (P : Met → Type 0) (waiting kept : Option Met) → IfSome waiting P → IfSome kept (λ low. waiting ≡ Some low) → IfSome kept P
-still-waits P waiting None p h = tt
-still-waits P waiting (Some low) p h = subst (λ (o : Option Met). IfSome o P) h p
+pub waiting-further : (old new : CellPool) (start here : Met) (r : ℕ) (waiting : Option Met) (next : Met) → IsClimbing old new start here r waiting → IsFurther old here next →
+    IfSome waiting (λ low. (start.rank ≤ low.rank) × IsFurther old low next)
+waiting-further old new start here r waiting next k f = some-map _ _ waiting (λ low w. (w.0, further-on old low here next w.1 f)) k.waits
 
 -- where a climb from a place begins, from what is noted there
 pub starts-noted : (pool : CellPool) (place r : ℕ) → IsSound pool → IsCovered pool place → (mark : Option Hint) → mark ≡ finger_of pool place → (met : Met) → IsNamed pool mark met → met.rank < r → IsStart pool place r met

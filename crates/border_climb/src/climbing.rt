@@ -1,4 +1,4 @@
-ghost use Rattle.std.specs.Prelude.{◌≡◌, ℕ, ◌<◌, ◌≤◌, ◌⊎◌, Some, IfSome, IfNone};
+ghost use Rattle.std.specs.Prelude.{◌≡◌, ℕ, ◌<◌, ◌≤◌, Some, IfSome, IfNone};
 ghost use Rattle.node_region.specs.Pool.{IsCovered, IsUsed, IsPool, cell_at, leaf_of, hint_of};
 ghost use Rattle.border_climb.specs.Linked.{HasRank};
 ghost use Rattle.border_climb.specs.Notes.{IsClimbable, IsNoted, IsSound};
@@ -11,11 +11,6 @@ use node_region::{Hint, Region};
 pub(crate) struct Met {
     pub(crate) id: u32,
     pub(crate) rank: u32,
-}
-
-// How high a rank stands in the order of notes: half of all ranks stand at 0, a quarter at 1, and so on.
-fn level(rank: u32) -> u32 {
-    (rank.wrapping_mul(2_654_435_761) >> 3).trailing_zeros()
 }
 
 // The cell that a link leads to, if its rank is below r.
@@ -63,26 +58,15 @@ fn ahead(region: &Region, here: Met, skip: Option<Met>, r: u32) -> Option<Met>
     }
 }
 
-// Which cell waits for a note: the one that did, or this one where nothing is noted.
-fn waits(waiting: Option<Met>, skip: Option<Met>, here: Met) -> Option<Met>
-    ensures { IfSome result (λ low. (waiting ≡ Some low) ⊎ (low ≡ here)) }
-{
-    if waiting.is_some() {
-        return waiting;
-    }
-    if skip.is_some() { None } else { Some(here) }
-}
-
-// Notes the cell that comes next at the one that waits, where it is of a higher level.
-fn pass(region: &mut Region, waiting: Option<Met>, next: Met) -> Option<Met>
+// Notes the next cell at the one that waits; where none does, this cell waits.
+fn pass(region: &mut Region, waiting: Option<Met>, here: Met, next: Met) -> Option<Met>
     requires { IfSome waiting (λ low. IsFurther region.old low next) }
     ensures noted { (l : ℕ) → IfSome waiting (λ low. l ≤ low.rank) → IsNoted region.old region.new l }
-    ensures waiting { IfSome result (λ low. waiting ≡ Some low) }
+    ensures waiting { IfSome result (λ low. low ≡ here) }
 {
-    let low = waiting?;
-    if level(next.rank) <= level(low.rank) {
-        return waiting;
-    }
+    let Some(low) = waiting else {
+        return Some(here);
+    };
     let turn = region.turn(next.id);
     region.set_hint(
         low.id,
@@ -94,7 +78,8 @@ fn pass(region: &mut Region, waiting: Option<Met>, next: Met) -> Option<Met>
     None
 }
 
-// Climbs from a cell to the last one of rank below r. Notes of cells further up are taken as short cuts, and made.
+// Climbs from a cell to the last one of rank below r. Notes of cells further up are taken as short cuts, and every
+// second step makes one over two steps, so that the next climb takes half as many.
 pub(crate) fn climb(region: &mut Region, start: Met, r: u32) -> Met
     requires climbable { IsClimbable region.old start.rank }
     requires seat { HasRank region.old start.id start.rank }
@@ -109,21 +94,21 @@ pub(crate) fn climb(region: &mut Region, start: Met, r: u32) -> Met
         let Some(next) = ahead(region, here, skip, r) else {
             return here;
         };
-        waiting = pass(region, waits(waiting, skip, here), next);
+        waiting = pass(region, waiting, here, next);
         here = next;
     }
 }
 
 // Where a climb from a place to rank r begins: at the cell that is noted there, or at the first one.
-fn begins(region: &Region, place: u32, first: Met, r: u32) -> Met
+fn begins(region: &Region, place: u32, r: u32) -> Option<Met>
     requires covered { IsCovered region.now place }
     requires sound { IsSound region.now }
-    requires first { IsBelow region.now (leaf_of region.now place) r first }
-    ensures { IsStart region.now place r result }
+    ensures start { IfSome result (IsStart region.now place r) }
+    ensures none { IfNone result (Ends region.now (leaf_of region.now place) r) }
 {
     match noted(region, region.finger(place)) {
-        Some(met) if met.rank < r => met,
-        _ => first,
+        Some(met) if met.rank < r => Some(met),
+        _ => below(region, region.leaf(place), r),
     }
 }
 
@@ -135,8 +120,7 @@ pub(crate) fn last_below(region: &mut Region, place: u32, r: u32) -> Option<u32>
     ensures notes { DiffersInNotes region.old region.new }
     ensures sound { IsSound region.new }
 {
-    let first = below(region, region.leaf(place), r)?;
-    let start = begins(region, place, first, r);
+    let start = begins(region, place, r)?;
     let last = climb(region, start, r);
     let turn = region.turn(last.id);
     region.set_finger(

@@ -1,7 +1,7 @@
 ghost use Rattle.std.specs.Prelude.{◌≡◌, ◌≢◌, ℕ, ◌+◌, ◌*◌, ◌-◌, ◌++◌, ◌<◌, ◌≤◌, ◌∷◌, [], length, vec_capacity, Some, IfOk, IfSome};
 ghost use Rattle.hg_base.specs.Edges.{ListedEdge, EdgeList, components};
 ghost use Rattle.hg_base.specs.Placed.{placed};
-ghost use Rattle.node_region.specs.Pool.{IsCovered, IsUsed, IsPool, IsNextTo, count, leaf_of, appended};
+ghost use Rattle.node_region.specs.Pool.{IsCovered, IsUsed, IsPool, IsNextTo, cell_at, count, leaf_of, appended};
 ghost use Rattle.border_climb.specs.Stands.{Stands, IsNewRank};
 ghost use Rattle.border_climb.specs.Splicing.{rank_of};
 ghost use Rattle.border_climb.specs.Parts.{IsAnswer, KeepsPart, AreUnited, SomeUnited, empty_part, above_cell};
@@ -9,7 +9,7 @@ ghost use Rattle.border_climb.specs.Parts.{IsAnswer, KeepsPart, AreUnited, SomeU
 use crate::given::Given;
 use crate::splicing::splice;
 use hg_base::{OutOfMemory, PlacedEdge, Room};
-use node_region::Region;
+use node_region::{Cell, Region};
 use std::alloc::Global;
 use std::marker::Model;
 
@@ -173,6 +173,14 @@ impl Part {
         ensures higher { IfSome result (λ above. rank_of self.now.region id < rank_of self.now.region above) }
     {
         self.region.get(id).up
+    }
+
+    /// The cell of a number, if it has one.
+    pub fn cell(&self, id: u32) -> Option<Cell>
+        requires { IsCovered self.now.region id }
+        ensures { result ≡ cell_at self.now.region id }
+    {
+        self.region.cell(id)
     }
 
     /// The rank of a cell's edge.

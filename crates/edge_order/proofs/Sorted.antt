@@ -1,7 +1,7 @@
 -- A sort of the keys puts the key of the edge of rank k at place k.
-use Rattle.std.proofs.Common.{◌≡◌, ℕ, ◌+◌, ◌<◌, ◌≤◌, ◌==◌, ◌⊎◌, inl, inr, Bool, true, false, cond, ◌&&◌, ◌||◌, List, [], ◌∷◌, ◌++◌, Some, slice_get, length, get_or, map, count_by, nat_lt, refl, sym, ap, ◌∙◌, subst, arith}
+use Rattle.std.proofs.Common.{◌≡◌, ℕ, ◌+◌, ◌<◌, ◌≤◌, ◌==◌, ◌⊎◌, inl, inr, Bool, true, false, cond, ◌&&◌, ◌||◌, List, length, get_or, count_by, nat_lt, refl, sym, ap, ◌∙◌, subst, arith}
 use Rattle.std.specs.Prelude.{IsPermutation, IsSorted}
-use Rattle.std.specs.List.{swap, range_with_len}
+use Rattle.std.specs.List.{swap}
 use Rattle.std.specs.Ordering.{nat_cmp, ordering_then, is_lt}
 use Rattle.std.specs.declared.cmp.Ordering.{Ordering}
 use Rattle.std.specs.declared.cmp.Ordering.TheVariants.{Less, Equal, Greater}
@@ -9,26 +9,25 @@ use Rattle.std.proofs.lemmas.Cmp.{nat_cmp_total, on_total, then_total}
 use Rattle.std.proofs.lemmas.Bool.{cases_Bool, cases_eq}
 use Rattle.std.proofs.lemmas.Bool.Decides.{nat_tests}
 use Rattle.std.proofs.lemmas.List.{get_or_default}
-use Rattle.std.proofs.lemmas.List.FromFn.{length-map-range_with_len, get_or-map-range_with_len, map-range_with_len_more, fill_by_all}
+use Rattle.std.proofs.lemmas.List.FromFn.{length-map-range_with_len, get_or-map-range_with_len, fill_by_all}
 use Rattle.std.proofs.lemmas.List.Folds.{fold-map}
 use Rattle.std.proofs.lemmas.List.Edits.{swapped_from_swap, length-swap}
 use Rattle.std.proofs.lemmas.List.Sorted.{IsPermutation-keeps, IsPermutation-sym, Contains-permutation, sum_by-IsPermutation, length_permutation, sorted_far, ranks_by}
 use Rattle.hg_base.specs.Graph.{WeightedGraph, weight}
-use Rattle.hg_base.specs.declared.graph.Edge.{Edge}
 use Rattle.hg_base.specs.Rank.{numbers, comes_before, rank, number_at}
 use Rattle.edge_order.specs.Tables.{key, keys_of, sorted_keys_of}
 use Rattle.hg_base.proofs.CountBy.{count_by-is}
 use Rattle.hg_base.proofs.Ranks.{number_at-rank}
 
 -- the order of keys: by weight, then by number
-abbrev key_cmp : ℕ × ℕ → ℕ × ℕ → Ordering
+abbrev pub key_cmp : ℕ × ℕ → ℕ × ℕ → Ordering
 key_cmp x y = ordering_then (nat_cmp x.0 y.0) (nat_cmp x.1 y.1)
 
-abbrev key_lt : ℕ × ℕ → ℕ × ℕ → Bool
+abbrev pub key_lt : ℕ × ℕ → ℕ × ℕ → Bool
 key_lt x y = is_lt (key_cmp x y)
 
 -- the sort's test is the test of "comes before"
-tests_agree : (l e k f : Bool) → is_lt (ordering_then (cond l Less (cond e Equal Greater)) (cond k Less (cond f Equal Greater))) ≡ (l || (e && k))
+pub tests_agree : (l e k f : Bool) → is_lt (ordering_then (cond l Less (cond e Equal Greater)) (cond k Less (cond f Equal Greater))) ≡ (l || (e && k))
 tests_agree true e k f = refl
 tests_agree false true true f = refl
 tests_agree false true false true = refl
@@ -128,9 +127,3 @@ sorted_keys-is g keys same sorted =
     let long = length_permutation (keys_of g) keys same ∙ length-map-range_with_len (key g) 0 (length g.edges) in
     fill_by_all (λ k. key g (number_at g k)) keys (length g.edges) (0, 0) long
     (λ k l. sorted_at g keys same sorted k (0, 0) (omega (arith, l, long)))
-
--- one more key, by number
-pub keys_more : (g : WeightedGraph) (e : ℕ) (x : Edge) (keys : List (ℕ × ℕ)) → slice_get g.edges e ≡ Some x → keys ≡ map (key g) (range_with_len 0 e) → keys ++ ((x.w, e) ∷ []) ≡ map (key g) (range_with_len 0 (e + 1))
-keys_more g e x keys found so_far =
-    let its_key : key g e ≡ (x.w, e) = rw found refl in
-    rw (map-range_with_len_more (key g) 0 e e (omega arith), so_far, its_key) refl

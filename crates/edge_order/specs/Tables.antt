@@ -1,10 +1,10 @@
--- The tables of an order: the keys by which the edges are sorted, the rows, and the ranks.
+-- The keys by which the edges of a graph are sorted.
 use Rattle.std.specs.Prelude.{ℕ, List, map}
-use Rattle.hg_base.specs.Graph.{WeightedGraph, JoinsTwo, weight}
-use Rattle.hg_base.specs.Edges.{ListedEdge}
-use Rattle.hg_base.specs.Rank.{numbers, number_at, rank}
-use Rattle.edge_order.specs.Order.{with_number, without_rank}
-use Rattle.edge_order.specs.declared.order.NumberedEdge.{NumberedEdge}
+use Rattle.std.specs.List.Sorted.{IsSortedByKey}
+use Rattle.std.specs.Ordering.{nat_cmp}
+use Rattle.hg_base.specs.Graph.{WeightedGraph, weight}
+use Rattle.hg_base.specs.Rank.{numbers, number_at}
+use Rattle.edge_order.specs.declared.key.Key.{Key}
 
 -- the key of edge number e
 abbrev pub key : WeightedGraph → ℕ → ℕ × ℕ
@@ -18,14 +18,6 @@ keys_of g = map (key g) (numbers g)
 abbrev pub sorted_keys_of : WeightedGraph → List (ℕ × ℕ)
 sorted_keys_of g = map (λ k. key g (number_at g k)) (numbers g)
 
--- a row of the table of edges
-abbrev pub listed_row : NumberedEdge → ListedEdge
-listed_row x = with_number x.edge x.number
-
--- the rank of each edge of the graph, by number
-abbrev pub ranks_of : WeightedGraph → List ℕ
-ranks_of g = map (rank g) (numbers g)
-
--- the ends of a row's edge are two vertices
-abbrev pub HasEnds : ℕ → NumberedEdge → Type 0
-HasEnds n x = JoinsTwo n (without_rank x.edge)
+-- the packed keys don't fall
+abbrev pub AreRising : List Key → Type 0
+AreRising keys = IsSortedByKey (λ (k : Key). k.packed) nat_cmp keys

@@ -1,30 +1,24 @@
 ghost use Rattle.std.specs.Prelude.{◌≡◌, ℕ, ◌+◌, ◌<◌, ◌≤◌, ◌∷◌, [], ◌++◌, length, map, take, slice_get, Some, IfOk, All};
 ghost use Rattle.hg_base.specs.Graph.{JoinsTwo, WeightedGraph, weight};
-ghost use Rattle.hg_base.specs.Rank.{numbers, number_at, rank, ranked};
 ghost use Rattle.edge_order.specs.Order.{order_of, number_at_rank, with_number, without_rank};
-ghost use Rattle.edge_order.specs.Tables.{keys_of, sorted_keys_of, ranks_of, listed_row, HasEnds};
+ghost use Rattle.edge_order.specs.Keys.{unpacked};
+ghost use Rattle.edge_order.specs.Tables.{AreRising, keys_of, sorted_keys_of};
 
+use crate::key::Key;
 use hg_base::{Edge, Graph, OutOfMemory, RankedEdge};
 use rayon::prelude::*;
 use std::alloc::{AllocError, Global};
 use std::marker::Model;
 use std::thread::Threads;
 
-/// An edge with its rank and its number.
-#[derive(Clone, Copy)]
-struct NumberedEdge {
-    edge: RankedEdge,
-    number: u32,
-}
-
 /// The edges of a graph in order of rank: by weight, then by number.
 #[derive(Drop)]
 pub struct Order {
     n: u32,
-    // The edges by rank.
-    edges: Vec<NumberedEdge>,
-    // The rank of each edge by its number.
-    ranks: Vec<u32>,
+    // The weight and the number of each edge, by rank.
+    keys: Vec<Key>,
+    // The edges by number.
+    edges: Vec<Edge>,
 }
 
 impl Model for Order {
@@ -40,12 +34,12 @@ impl Model for Order {
 }
 
 /// The weight and the number of each edge, by number.
-fn keys(alloc: Global, graph: &Graph) -> Result<Vec<(u32, u32)>, AllocError>
-    ensures { IfOk result (λ v. v.items ≡ keys_of graph.now) }
+fn keys(alloc: Global, graph: &Graph) -> Result<Vec<Key>, AllocError>
+    ensures { IfOk result (λ v. map unpacked v.items ≡ keys_of graph.now) }
 {
     let mut keys = Vec::with_capacity(alloc, graph.m() as usize)?;
     for number in 0..graph.m() {
-        keys.push((graph.edge(number).w, number))?;
+        keys.push(Key::new(graph.edge(number).w, number))?;
     }
     Ok(keys)
 }
@@ -55,52 +49,26 @@ fn sorted_keys(
     rt: &(impl Threads + Sync),
     alloc: Global,
     graph: &Graph,
-) -> Result<Vec<(u32, u32)>, AllocError>
-    ensures { IfOk result (λ v. v.items ≡ sorted_keys_of graph.now) }
+) -> Result<Vec<Key>, AllocError>
+    ensures keys { IfOk result (λ v. map unpacked v.items ≡ sorted_keys_of graph.now) }
+    ensures rising { IfOk result (λ v. AreRising v.items) }
 {
     let mut keys = keys(alloc, graph)?;
     par_sort_unstable(rt, &mut keys);
     Ok(keys)
 }
 
-/// The edges by rank.
-fn edges_by_rank(
-    alloc: Global,
-    graph: &Graph,
-    keys: &[(u32, u32)],
-) -> Result<Vec<NumberedEdge>, AllocError>
-    requires { keys.now ≡ sorted_keys_of graph.now }
-    ensures edges { IfOk result (λ v. map listed_row v.items ≡ ranked graph.now) }
-    ensures ends { IfOk result (λ v. All (HasEnds graph.now.n) v.items) }
+/// The edges by number.
+fn edges(alloc: Global, graph: &Graph) -> Result<Vec<Edge>, AllocError>
+    ensures edges { IfOk result (λ v. v.items ≡ graph.now.edges) }
+    ensures ends { IfOk result (λ v. All (JoinsTwo graph.now.n) v.items) }
     ensures few { IfOk result (λ v. length v.items ≤ 4194304) }
 {
-    let mut edges = Vec::with_capacity(alloc, keys.len())?;
-    for rank in 0..graph.m() {
-        let (_, number) = keys[rank as usize];
-        let Edge { u, v, w } = graph.edge(number);
-        edges.push(NumberedEdge {
-            edge: RankedEdge { rank, u, v, w },
-            number,
-        })?;
+    let mut edges = Vec::with_capacity(alloc, graph.m() as usize)?;
+    for number in 0..graph.m() {
+        edges.push(graph.edge(number))?;
     }
     Ok(edges)
-}
-
-/// The rank of each edge by its number.
-fn ranks_by_number(
-    alloc: Global,
-    graph: &Graph,
-    keys: &[(u32, u32)],
-) -> Result<Vec<u32>, AllocError>
-    requires { keys.now ≡ sorted_keys_of graph.now }
-    ensures { IfOk result (λ v. v.items ≡ ranks_of graph.now) }
-{
-    let mut ranks = vec![in alloc; 0; graph.m() as usize]?;
-    for rank in 0..graph.m() {
-        let (_, number) = keys[rank as usize];
-        ranks[number as usize] = rank;
-    }
-    Ok(ranks)
 }
 
 impl Order {
@@ -123,12 +91,11 @@ impl Order {
         ensures { IfOk result (λ order. order ≡ order_of graph.now) }
     {
         let keys = sorted_keys(rt, alloc, graph)?;
-        let edges = edges_by_rank(alloc, graph, &keys)?;
-        let ranks = ranks_by_number(alloc, graph, &keys)?;
+        let edges = edges(alloc, graph)?;
         Ok(Order {
             n: graph.n(),
+            keys,
             edges,
-            ranks,
         })
     }
 
@@ -150,7 +117,14 @@ impl Order {
         ensures next { let edge = with_number result (number_at_rank self.now k) in
             take (k + 1) self.now.edges ≡ take k self.now.edges ++ edge ∷ [] }
     {
-        self.edges[k as usize].edge
+        let key = self.keys[k as usize];
+        let Edge { u, v, .. } = self.edges[key.number() as usize];
+        RankedEdge {
+            rank: k,
+            u,
+            v,
+            w: key.weight(),
+        }
     }
 
     /// The number of the edge at rank `k`.
@@ -159,7 +133,7 @@ impl Order {
         ensures value { result ≡ number_at_rank self.now k }
         ensures below { result < length self.now.edges }
     {
-        self.edges[k as usize].number
+        self.keys[k as usize].number()
     }
 
     /// The rank of edge number `e`.
@@ -169,7 +143,11 @@ impl Order {
         ensures below { result < length self.now.edges }
         ensures only { (k : ℕ) → k < length self.now.edges → number_at_rank self.now k ≡ e → k ≡ result }
     {
-        self.ranks[e as usize]
+        let key = Key::new(self.edges[e as usize].w, e);
+        match self.keys.binary_search(&key) {
+            Ok(rank) => rank as u32,
+            Err(_) => unreachable!(),
+        }
     }
 }
 

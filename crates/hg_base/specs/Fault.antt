@@ -17,3 +17,5 @@ number_of kinds.TooLong = 10
 number_of kinds.NotAPicture = 11
 number_of kinds.TooManyTiles = 12
 number_of kinds.TooManyLabels = 14
+number_of kinds.TooManyJobs = 15
+number_of kinds.TooManyVertices = 16

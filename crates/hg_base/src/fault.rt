@@ -25,6 +25,8 @@ pub enum FaultKind {
     NotAPicture,
     TooManyTiles,
     TooManyLabels,
+    TooManyJobs,
+    TooManyVertices,
 }
 
 impl FaultKind {
@@ -46,6 +48,8 @@ impl FaultKind {
             FaultKind::NotAPicture => 11,
             FaultKind::TooManyTiles => 12,
             FaultKind::TooManyLabels => 14,
+            FaultKind::TooManyJobs => 15,
+            FaultKind::TooManyVertices => 16,
         }
     }
 }

@@ -82,9 +82,10 @@ impl Graph {
         }
     }
 
-    /// The number of vertices.
+    /// The number of vertices. The graph keeps to its limits.
     pub fn n(&self) -> u32
         ensures value { result ≡ self.now.n }
+        ensures graph { IsGraph self.now }
         ensures some_vertex { 1 ≤ result }
         ensures vertices { result ≤ 1048576 }
     {

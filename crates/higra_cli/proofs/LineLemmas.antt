@@ -18,7 +18,7 @@ length_decimal_digit n h = ap length (decimal_digit n h)
 pub length_decimal_le : (n : ℕ) → n < 2 ^ 64 → length (decimal n) ≤ 20
 length_decimal_le n h = length-decimal-le 20 n (lit< tt) (omega arith) h
 
-number_below : (kind : FaultKind) → number_of kind < 15
+number_below : (kind : FaultKind) → number_of kind < 17
 number_below kinds.UnknownForm = lit< tt
 number_below kinds.BadNumber = lit< tt
 number_below kinds.TooLarge = lit< tt
@@ -32,15 +32,17 @@ number_below kinds.TooLong = lit< tt
 number_below kinds.NotAPicture = lit< tt
 number_below kinds.TooManyTiles = lit< tt
 number_below kinds.TooManyLabels = lit< tt
+number_below kinds.TooManyJobs = lit< tt
+number_below kinds.TooManyVertices = lit< tt
 
 -- the number of a kind of fault has at most two digits
 pub length_kind_le : (kind : FaultKind) → length (decimal (number_of kind)) ≤ 2
 length_kind_le kind =
-    let below : number_of kind < 15 = number_below kind in
+    let below : number_of kind < 17 = number_below kind in
     length-decimal-le 2 (number_of kind) (lit< tt) (omega arith) (omega arith)
 
--- no kind of fault has a longer name than the greatest sample's
-pub length_name_le : (kind : FaultKind) → length (name_of kind) ≤ 14
+-- no kind of fault has a longer name than that of too many vertices
+pub length_name_le : (kind : FaultKind) → length (name_of kind) ≤ 15
 length_name_le kinds.UnknownForm = lit≤ tt
 length_name_le kinds.BadNumber = lit≤ tt
 length_name_le kinds.TooLarge = lit≤ tt
@@ -54,6 +56,8 @@ length_name_le kinds.TooLong = lit≤ tt
 length_name_le kinds.NotAPicture = lit≤ tt
 length_name_le kinds.TooManyTiles = lit≤ tt
 length_name_le kinds.TooManyLabels = lit≤ tt
+length_name_le kinds.TooManyJobs = lit≤ tt
+length_name_le kinds.TooManyVertices = lit≤ tt
 
 pub ruleset line_lengths = (length_decimal_step, length_decimal_digit, length_decimal_le, length_kind_le, length_name_le)
 

@@ -38,6 +38,8 @@ name_of kinds.TooLong = codes "TooLong"
 name_of kinds.NotAPicture = codes "NotAPicture"
 name_of kinds.TooManyTiles = codes "TooManyTiles"
 name_of kinds.TooManyLabels = codes "TooManyLabels"
+name_of kinds.TooManyJobs = codes "TooManyJobs"
+name_of kinds.TooManyVertices = codes "TooManyVertices"
 
 -- the words of a fault line as a line
 abbrev pub said : List ℕ → List ℕ

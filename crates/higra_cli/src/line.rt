@@ -138,5 +138,7 @@ fn name(kind: FaultKind) -> &'static str
         FaultKind::NotAPicture => "NotAPicture",
         FaultKind::TooManyTiles => "TooManyTiles",
         FaultKind::TooManyLabels => "TooManyLabels",
+        FaultKind::TooManyJobs => "TooManyJobs",
+        FaultKind::TooManyVertices => "TooManyVertices",
     }
 }

@@ -42,34 +42,34 @@ pub row-first : (first : ℕ) (chunks : List Chunk) → AreInRow first chunks �
 row-first first [] row k d h = absurd (omega (arith, h))
 row-first first (c ∷ cs) row zero d h = row.0 ∙ sym (add-zero first)
 row-first first (c ∷ cs) row (suc k) d h =
-    let next = row-first (first + length c.slots.items) cs row.1.1 k d (omega (arith, h)) in
+    let next = row-first (first + length c.slots.items) cs row.1.1.1 k d (omega (arith, h)) in
     omega (arith, next, length-append c.slots.items (slots_of (take k cs)))
 
 -- a table has as many places as numbers
 pub row-places : (first : ℕ) (chunks : List Chunk) → AreInRow first chunks → (k : ℕ) (d : Chunk) → k < length chunks → length (get_or chunks k d).places.items ≡ length (get_or chunks k d).slots.items
 row-places first [] row k d h = absurd (omega (arith, h))
 row-places first (c ∷ cs) row zero d h = row.1.0
-row-places first (c ∷ cs) row (suc k) d h = row-places (first + length c.slots.items) cs row.1.1 k d (omega (arith, h))
+row-places first (c ∷ cs) row (suc k) d h = row-places (first + length c.slots.items) cs row.1.1.1 k d (omega (arith, h))
 
 -- as many places as numbers stand before a table
 pub places-before : (first : ℕ) (chunks : List Chunk) → AreInRow first chunks → (k : ℕ) → length (places_of (take k chunks)) ≡ start_of chunks k
 places-before first chunks row zero = refl
 places-before first [] row (suc k) = refl
 places-before first (c ∷ cs) row (suc k) =
-    omega (arith, row.1.0, places-before (first + length c.slots.items) cs row.1.1 k, length-append c.slots.items (slots_of (take k cs)), length-append c.places.items (places_of (take k cs)))
+    omega (arith, row.1.0, places-before (first + length c.slots.items) cs row.1.1.1 k, length-append c.slots.items (slots_of (take k cs)), length-append c.places.items (places_of (take k cs)))
 
 -- and in all
 pub places-all : (first : ℕ) (chunks : List Chunk) → AreInRow first chunks → length (places_of chunks) ≡ length (slots_of chunks)
 places-all first [] row = refl
 places-all first (c ∷ cs) row =
-    omega (arith, row.1.0, places-all (first + length c.slots.items) cs row.1.1, length-append c.slots.items (slots_of cs), length-append c.places.items (places_of cs))
+    omega (arith, row.1.0, places-all (first + length c.slots.items) cs row.1.1.1, length-append c.slots.items (slots_of cs), length-append c.places.items (places_of cs))
 
 -- a table is replaced by one as long that begins with the same number
 pub row-set : (first : ℕ) (chunks : List Chunk) → AreInRow first chunks → (k : ℕ) (c d : Chunk) → c.first ≡ (get_or chunks k d).first
     → length c.slots.items ≡ length (get_or chunks k d).slots.items → length c.places.items ≡ length (get_or chunks k d).places.items → AreInRow first (set chunks k c)
 row-set first [] row k c d at slots places = row
-row-set first (x ∷ xs) row zero c d at slots places = (at ∙ row.0, (places ∙ row.1.0 ∙ sym slots, rw slots row.1.1))
-row-set first (x ∷ xs) row (suc k) c d at slots places = (row.0, (row.1.0, row-set (first + length x.slots.items) xs row.1.1 k c d at slots places))
+row-set first (x ∷ xs) row zero c d at slots places = (at ∙ row.0, (places ∙ row.1.0 ∙ sym slots, (omega (arith, slots, row.1.1.0), rw slots row.1.1.1)))
+row-set first (x ∷ xs) row (suc k) c d at slots places = (row.0, (row.1.0, (row.1.1.0, row-set (first + length x.slots.items) xs row.1.1.1 k c d at slots places)))
 
 -- one row behind another
 pub row-append : (first : ℕ) (xs ys : List Chunk) → AreInRow first xs → AreInRow (first + length (slots_of xs)) ys → AreInRow first (xs ++ ys)
@@ -77,7 +77,7 @@ row-append first [] ys row behind = rw add-zero at behind
 row-append first (x ∷ xs) ys row behind =
     let long = length-append x.slots.items (slots_of xs) in
     let on : first + length (x.slots.items ++ slots_of xs) ≡ first + length x.slots.items + length (slots_of xs) = omega (arith, long) in
-    (row.0, (row.1.0, row-append (first + length x.slots.items) xs ys row.1.1 (rw on at behind)))
+    (row.0, (row.1.0, (row.1.1.0, row-append (first + length x.slots.items) xs ys row.1.1.1 (rw on at behind))))
 
 -- the entry is in its table
 pub at-within : (chunks : List Chunk) (at : At) → IsAt chunks at → (c : Chunk) → at.index < length (get_or chunks at.chunk c).slots.items
@@ -149,8 +149,10 @@ pub one-list : {X : Type 0} (xs ys : List X) (x : X) → xs ≡ [] → ys ≡ xs
 one-list xs ys x none more = rw none at more
 
 -- one table of numbers that were never taken stands in a row
-pub one-row : (first count : ℕ) (c : Chunk) (chunks : List Chunk) → chunks ≡ c ∷ [] → c.first ≡ first → c.slots.items ≡ fresh_slots first count → length c.places.items ≡ count → AreInRow first chunks
-one-row first count c chunks one at slots places = rw one (at, (places ∙ sym (ap length slots ∙ length-map-range_with_len fresh_slot first count), tt))
+pub one-row : (first count : ℕ) (c : Chunk) (chunks : List Chunk) → 1 ≤ count → chunks ≡ c ∷ [] → c.first ≡ first → c.slots.items ≡ fresh_slots first count → length c.places.items ≡ count → AreInRow first chunks
+one-row first count c chunks some one at slots places =
+    let long = ap length slots ∙ length-map-range_with_len fresh_slot first count in
+    rw one (at, (places ∙ sym long, (omega (arith, long, some), tt)))
 
 pub one-count : (first count : ℕ) (c : Chunk) (chunks : List Chunk) → chunks ≡ c ∷ [] → c.slots.items ≡ fresh_slots first count → count ≡ length (slots_of chunks)
 one-count first count c chunks one slots = rw one (sym (ap length (append-nil c.slots.items) ∙ ap length slots ∙ length-map-range_with_len fresh_slot first count))

@@ -1,7 +1,7 @@
 -- The tables of a region: one after another they have an entry for each number and for each place.
-use Rattle.std.specs.Prelude.{◌≡◌, ℕ, zero, suc, ◌+◌, ◌-◌, ◌<◌, List, [], ◌∷◌, length, map, take, get_or, Option, Some, None}
+use Rattle.std.specs.Prelude.{◌≡◌, ℕ, zero, suc, ◌+◌, ◌-◌, ◌<◌, ◌≤◌, List, [], ◌∷◌, length, map, take, get_or, Option, Some, None}
 use Rattle.std.specs.List.{flat_map, range_with_len}
-use Rattle.std.specs.Coded.{×_prop, Unit-prop, Coded-set, coded_ℕ}
+use Rattle.std.specs.Coded.{×_prop, Unit-prop, Coded-set, coded_ℕ, le_prop}
 use Rattle.node_region.specs.declared.cell.Cell.{Cell}
 use Rattle.node_region.specs.declared.chunk.State.{State}
 use Rattle.node_region.specs.declared.chunk.State.TheVariants.{Used, Free}
@@ -23,15 +23,16 @@ places_of chunks = flat_map (λ c. c.places.items) chunks
 abbrev pub start_of : List Chunk → ℕ → ℕ
 start_of chunks k = length (slots_of (take k chunks))
 
--- the tables begin at these numbers one after another, and each has as many places as numbers
+-- the tables begin at these numbers one after another, and each has some numbers and as many places
 abbrev pub AreInRow : ℕ → List Chunk → Type 0
 AreInRow first [] = Unit {0}
-AreInRow first (c ∷ cs) = (c.first ≡ first) × ((length c.places.items ≡ length c.slots.items) × AreInRow (first + length c.slots.items) cs)
+AreInRow first (c ∷ cs) = (c.first ≡ first) × ((length c.places.items ≡ length c.slots.items) × ((1 ≤ length c.slots.items) × AreInRow (first + length c.slots.items) cs))
 
 pub AreInRow-prop : (first : ℕ) (chunks : List Chunk) → IsProp (AreInRow first chunks)
 AreInRow-prop first [] = Unit-prop
 AreInRow-prop first (c ∷ cs) =
-    ×_prop (Coded-set coded_ℕ c.first first) (×_prop (Coded-set coded_ℕ (length c.places.items) (length c.slots.items)) (AreInRow-prop (first + length c.slots.items) cs))
+    ×_prop (Coded-set coded_ℕ c.first first)
+    (×_prop (Coded-set coded_ℕ (length c.places.items) (length c.slots.items)) (×_prop le_prop (AreInRow-prop (first + length c.slots.items) cs)))
 
 -- there is such an entry
 pub record IsAt (chunks : List Chunk) (at : At) : Type 0 where

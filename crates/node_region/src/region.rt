@@ -125,6 +125,17 @@ impl Region {
         }
     }
 
+    /// The cell of a number, if it has one.
+    pub fn cell(&self, id: u32) -> Option<Cell>
+        requires { IsCovered self.now id }
+        ensures { result ≡ cell_at self.now id }
+    {
+        match self.tables.slot(self.tables.locate(id)).state {
+            State::Used(cell) => Some(cell),
+            State::Free(_) => None,
+        }
+    }
+
     /// Gives a number that has a cell this one in its place.
     pub fn set(&mut self, id: u32, cell: Cell)
         requires { IsUsed self.old id }
@@ -154,7 +165,8 @@ impl Region {
         self.tables.set_place(at, Place { leaf: up, finger });
     }
 
-    /// How often a number was taken. The count stands still at the greatest `u32`.
+    /// How often a number was taken. The count stands still at the greatest `u32`: from then on all cells of the number
+    /// have one turn, and a hint of that turn no longer tells which of them it means.
     pub fn turn(&self, id: u32) -> u32
         requires { IsCovered self.now id }
         ensures { result ≡ turn_of self.now id }

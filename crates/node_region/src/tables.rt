@@ -9,6 +9,8 @@ use std::alloc::{AllocError, Global};
 pub(crate) struct Tables {
     pub(crate) first: u32,
     pub(crate) count: u32,
+    // 2^32 through the length of the first table, and 1: by it the table of a number is guessed.
+    pub(crate) scale: u64,
     pub(crate) chunks: Vec<Chunk>,
     ghost in_row: { AreInRow first chunks.items } by { AreInRow-prop first chunks.items },
     ghost counted: { count ≡ length (slots_of chunks.items) },
@@ -50,6 +52,7 @@ impl Tables {
         Ok(Tables {
             first,
             count,
+            scale: (1 << 32) / u64::from(count) + 1,
             chunks: list,
         })
     }
@@ -61,8 +64,39 @@ impl Tables {
         self.first <= id && id - self.first < self.count
     }
 
-    // Where the entry of a number is: in the last table that doesn't begin behind it.
+    // Where the entry of a number is. Most tables are as long as the first, so one multiplication mostly tells which it
+    // is; where it doesn't, they are searched.
     pub(crate) fn locate(&self, id: u32) -> At
+        requires from { self.now.first ≤ id }
+        requires below { id < self.now.first + self.now.count }
+        ensures at { IsAt self.now.chunks.items result }
+        ensures number { self.now.first + number_at self.now.chunks.items result ≡ id }
+        ensures within { number_at self.now.chunks.items result < length (slots_of self.now.chunks.items) }
+        ensures within_places { number_at self.now.chunks.items result < length (places_of self.now.chunks.items) }
+    {
+        let distance = id - self.first;
+        if self.chunks.len() == 1 {
+            return At {
+                chunk: 0,
+                index: distance as usize,
+            };
+        }
+        let guess = (u64::from(distance).wrapping_mul(self.scale) >> 32) as usize;
+        if guess >= self.chunks.len() {
+            return self.search(id);
+        }
+        let chunk = &self.chunks[guess];
+        if id < chunk.first || (id - chunk.first) as usize >= chunk.slots.len() {
+            return self.search(id);
+        }
+        At {
+            chunk: guess,
+            index: (id - chunk.first) as usize,
+        }
+    }
+
+    // The same by a search for the last table that doesn't begin behind the number.
+    fn search(&self, id: u32) -> At
         requires from { self.now.first ≤ id }
         requires below { id < self.now.first + self.now.count }
         ensures at { IsAt self.now.chunks.items result }
@@ -138,6 +172,7 @@ impl Tables {
         Tables {
             first: self.first,
             count: self.count + other.count,
+            scale: self.scale,
             chunks: put_behind(self.chunks, other.chunks),
         }
     }

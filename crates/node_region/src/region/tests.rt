@@ -92,7 +92,10 @@ fn what_is_noted_is_read(rt: HostRuntime) -> Result<(), Fail> {
         (region.leaf(4), region.finger(4), region.hint(4)),
         (Some(5), Some(hint), Some(hint))
     );
-    assert_eq!(rt; (region.find(hint), region.turn(4)), (None, 0));
+    assert_eq!(rt;
+        (region.find(hint), region.cell(4), region.turn(4)),
+        (None, None, 0)
+    );
     assert_eq!(rt; region.take(CELL), Some(4));
     assert_eq!(rt; region.find(hint), Some(CELL));
     check_used(&rt, &region, 4, 1);
@@ -109,8 +112,13 @@ fn what_is_noted_is_read(rt: HostRuntime) -> Result<(), Fail> {
     );
     check_covered(&rt, &region, 4);
     assert_eq!(rt;
-        (region.hint(4), region.turn(4), region.leaf(4)),
-        (None, 2, Some(5))
+        (
+            region.hint(4),
+            region.turn(4),
+            region.cell(4),
+            region.leaf(4)
+        ),
+        (None, 2, Some(CELL), Some(5))
     );
     Ok(())
 }

@@ -9,13 +9,13 @@ pub climb-last-requires-clause-climbable : goal.climb-last-requires-clause-climb
 climb-last-requires-clause-climbable c = sound-climbable _ c.requires.sound _
 
 pub returns-clause-top : goal.returns-clause-top
-returns-clause-top c = top-climbed _ _ _ _ _ c.begins-start.ensures c.climb-last.ensures.climbed
+returns-clause-top c = top-climbed _ _ _ _ _ c.in_ok-start.ensures.start c.climb-last.ensures.climbed
 
 pub returns-clause-sound : goal.returns-clause-sound
 returns-clause-sound c =
     let noted = c.climb-last.ensures.noted in
-    let same = links-noted c.args.region.now c.climb-last.new.region c.begins-start.result.rank noted in
-    let top = top-climbed _ _ _ _ _ c.begins-start.ensures c.climb-last.ensures.climbed in
+    let same = links-noted c.args.region.now c.climb-last.new.region c.in_ok-start.start.rank noted in
+    let top = top-climbed _ _ _ _ _ c.in_ok-start.ensures.start c.climb-last.ensures.climbed in
     sound-fingered c.climb-last.new.region c.set_finger.new.self c.args.place (record { cell = c.climb-last.result.id; turn = c.turn-turn.result })
     (sound-noted _ _ _ c.requires.sound noted) (same.still_covered c.args.place c.requires.covered).0 c.set_finger.ensures top.links
     (subst (λ (o : Option ℕ). IsMet c.climb-last.new.region top.links o c.climb-last.result.id) (sym (same.leafs c.args.place)) (met-same _ _ same _ _ _ top.met))

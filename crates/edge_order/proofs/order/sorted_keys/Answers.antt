@@ -1,16 +1,18 @@
 -- The sorted keys are a permutation of the keys by number.
-use Rattle.std.proofs.Common.{◌≡◌, ℕ, List, ◌++◌, ◌∙◌, ap, take, drop, length, subst, arith}
+use Rattle.std.proofs.Common.{◌≡◌, ℕ, List, ◌++◌, ◌∙◌, ap, map, take, drop, length, subst, arith}
 use Rattle.std.specs.Prelude.{IsPermutation}
 use Rattle.std.proofs.Math.Seq.{take-append_seam}
-use Rattle.edge_order.proofs.Sorted.{sorted_keys-is}
+use Rattle.edge_order.specs.Keys.{unpacked}
+use Rattle.edge_order.specs.declared.key.Key.{Key}
+use Rattle.edge_order.proofs.Packed.{sorted_keys-unpacked}
 use Rattle.edge_order.proofs.order.sorted_keys.Goals as goal
 
-pub returns : goal.returns
-returns g c =
+pub returns-clause-keys : goal.returns-clause-keys
+returns-clause-keys g c =
+    let keys = c.in_ok-keys.keys.items in
     let sorted = c.par_sort_unstable.new.s in
+    let rest : List Key = drop (length sorted) keys in
     let long : c.in_ok-keys.keys.len ≡ length sorted = omega (arith, c.in_ok-keys.keys.ok, c.deref_mut.ensures.len, c.par_sort_unstable.ensures.len) in
-    let same = sorted_keys-is c.args.graph.now sorted
-    (subst (λ (xs : List (ℕ × ℕ)). IsPermutation xs sorted) (c.deref_mut.ensures.value ∙ c.in_ok-keys.ensures) c.par_sort_unstable.ensures.permutation)
-    c.par_sort_unstable.ensures.sorted in
-    let rest : List (ℕ × ℕ) = drop (length sorted) c.in_ok-keys.keys.items in
-    ap (λ (n : ℕ). take n (sorted ++ rest)) long ∙ take-append_seam sorted rest ∙ same
+    let same = subst (λ (xs : List Key). IsPermutation xs sorted) c.deref_mut.ensures.value c.par_sort_unstable.ensures.permutation in
+    ap (map unpacked) (ap (λ (n : ℕ). take n (sorted ++ rest)) long ∙ take-append_seam sorted rest)
+    ∙ sorted_keys-unpacked c.args.graph.now keys sorted c.in_ok-keys.ensures same c.par_sort_unstable.ensures.sorted

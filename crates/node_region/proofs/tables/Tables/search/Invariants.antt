@@ -1,6 +1,6 @@
 use Rattle.std.proofs.Common.{◌+◌, ◌-◌, ◌<◌, ◌≤◌, length}
 use Rattle.node_region.specs.Tables.{start_of}
-use Rattle.node_region.proofs.tables.Tables.locate.Given as goal
+use Rattle.node_region.proofs.tables.Tables.search.Given as goal
 
 abbrev pub invariant-loop-high : goal.invariant-loop-high
 invariant-loop-high l =

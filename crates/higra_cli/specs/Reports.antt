@@ -200,8 +200,8 @@ refusal request input = picture_fault request.form request.report input before (
 
 -- what making a report of this form in tiles of this size answers: exactly its bytes, or why there is none, or that
 -- memory ran out
-abbrev pub IsReportIn : Form → ℕ → Report → Input → Result (Vec ℕ Global × ReceiptState) RunFault → Type 0
-IsReportIn form tile report input (Ok made) = (refusal_in form tile report input ≡ None) × (made.0.items ≡ report_in form report input)
+abbrev pub IsReportIn : Form → ℕ → Report → Input → Result (List ℕ × ReceiptState) RunFault → Type 0
+IsReportIn form tile report input (Ok made) = (refusal_in form tile report input ≡ None) × (made.0 ≡ report_in form report input)
 IsReportIn form tile report input (Err (faults.Input fault)) = refusal_in form tile report input ≡ Some fault
 IsReportIn form tile report input (Err faults.OutOfMemory) = Unit {0}
 

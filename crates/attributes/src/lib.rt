@@ -10,7 +10,7 @@ mod sums;
 mod table;
 
 pub use laws::{floors_are_low, volume_by_area};
-pub use report::write_attributes;
+pub use report::{attributes_pieces, write_attributes};
 pub use table::Attributes;
 
 #[cfg(test)]

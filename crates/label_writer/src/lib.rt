@@ -5,7 +5,7 @@ mod picture;
 mod report;
 
 pub use picture::{LabelFault, write_pgm};
-pub use report::write_labels;
+pub use report::{labels_pieces, write_labels};
 
 #[cfg(test)]
 mod tests;

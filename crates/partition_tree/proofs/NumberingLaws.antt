@@ -45,7 +45,6 @@ Stands-cells part s m st first few low = record {
   ranks = λ i c is. (let q = l.cells i c is in let own : c.rank ≡ q.edge.rank = q.rank in
       let b : q.edge.rank < m = low q.edge (IsIn-joins_kept s q.edge q.joins).0 in omega arith);
   alone = st.alone;
-  met = st.met;
 }
   where
     l : AreLinked part.region s
@@ -203,18 +202,16 @@ inner-parents part s n made numbers w =
         ∙ ap (λ (x : ℕ). node_above numbers x h.cell.up) number
         ∙ link-node part s n made numbers w (n + place s e) e.u (suc e.rank) h.cell.up (next s e.u (suc e.rank)) refl up
 
--- a value that the rank tells, for each inner node
+-- a value that the rank tells, for each cell
+values-of : (pool : CellPool) (ids : List ℕ) (es : EdgeList) → AreOf pool ids es → (f : ℕ → ℕ) (g : ListedEdge → ℕ) → ((e : ListedEdge) → IsIn e es → f e.rank ≡ g e) → map (λ id. f (rank_of pool id)) ids ≡ map g es
+values-of pool [] [] a f g tells = refl
+values-of pool [] (e ∷ es) a f g tells = absurd a
+values-of pool (id ∷ ids) [] a f g tells = absurd a
+values-of pool (id ∷ ids) (e ∷ es) a f g tells =
+    ap (λ (x : ℕ). x ∷ map (λ i. f (rank_of pool i)) ids) (ap f (rank-is pool id a.0.cell a.0.is ∙ a.0.has) ∙ tells e (inl refl))
+    ∙ ap (λ (l : List ℕ). g e ∷ l) (values-of pool ids es a.1 f g (λ d i. tells d (inr i)))
+
+-- and so for each inner node
 pub inner-values : (part : PartState) (s : EdgeList) (n : ℕ) (made numbers : List ℕ) → IsNumbering part s n made numbers → (f : ℕ → ℕ) (g : ListedEdge → ℕ) →
-    ((e : ListedEdge) → IsIn e s → f e.rank ≡ g e) → map (λ i. f (rank_of part.region (get_or made i 0))) (range_with_len 0 (length made)) ≡ map g (joins s)
-inner-values part s n made numbers w f g tells =
-    ap (λ (k : ℕ). map (λ i. f (rank_of part.region (get_or made i 0))) (range_with_len 0 k)) (of-length part.region made (joins s) w.made_of)
-    ∙ range-list (λ i. f (rank_of part.region (get_or made i 0))) g 0 (joins s) (λ i e eq. one i e eq)
-  where
-    one : (i : ℕ) (e : ListedEdge) → slice_get (joins s) i ≡ Some e → f (rank_of part.region (get_or made (0 + i) 0)) ≡ g e
-    one i e eq =
-        let at = joins-index s w.stands.apart i e eq in
-        let h = of-at part.region made (joins s) w.made_of i e eq in
-        let index : 0 + i ≡ i = omega arith in
-        ap (λ (k : ℕ). f (rank_of part.region (get_or made k 0))) index
-        ∙ ap f (rank-is part.region (get_or made i 0) h.cell h.is ∙ h.has)
-        ∙ tells e (IsIn-joins_kept s e at.0).0
+    ((e : ListedEdge) → IsIn e s → f e.rank ≡ g e) → map (λ id. f (rank_of part.region id)) made ≡ map g (joins s)
+inner-values part s n made numbers w f g tells = values-of part.region made (joins s) w.made_of f g (λ e i. tells e (IsIn-joins_kept s e i).0)

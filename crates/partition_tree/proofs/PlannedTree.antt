@@ -1,5 +1,5 @@
 -- The numbering of a part that took in the lots of all parts of a plan is the tree of the plan's edges.
-use Rattle.std.proofs.Common.{◌≡◌, ℕ, zero, suc, ◌+◌, ◌*◌, ◌<◌, ◌≤◌, sym, ◌∙◌, subst, ap, arith, List, ◌++◌, length, map, get_or}
+use Rattle.std.proofs.Common.{◌≡◌, ℕ, zero, suc, ◌+◌, ◌*◌, ◌<◌, ◌≤◌, sym, ◌∙◌, subst, ap, arith, List, ◌++◌, length, map}
 use Rattle.std.specs.Prelude.{Option, Some, replicate, slice_get, Result, Ok, Err, IfOk}
 use Rattle.std.specs.Option.{option_map_or}
 use Rattle.std.specs.List.{range_with_len}
@@ -20,9 +20,8 @@ use Rattle.tile_plan.proofs.Edges.{AreApart-rising}
 use Rattle.tile_plan.proofs.Ranges.{places-once, places-below}
 use Rattle.tile_plan.proofs.Reading.{IsIn-renamed_back}
 use Rattle.partition_tree.specs.Forest.{IsForest, lists_of}
-use Rattle.partition_tree.specs.Numbering.{AreCells, AreByRank, in_rank, AreNumbers, node_above, inner_parent, IsPlacing, placed_tree}
+use Rattle.partition_tree.specs.Numbering.{AreCells, AreDrawn, AreNumbers, node_above, inner_parent, IsPlacing, placed_tree}
 use Rattle.partition_tree.specs.Planned.{weight_at}
-use Rattle.partition_tree.proofs.CellLemmas.{in_rank-few}
 use Rattle.partition_tree.proofs.TreeLemmas.{tree-forest}
 use Rattle.partition_tree.proofs.NumberingLaws.{Stands-cells, IsNumbering, numbering-of, leaf-parents, inner-parents, inner-values}
 use Rattle.partition_tree.proofs.PlacedTree.{placed-tree}
@@ -89,13 +88,6 @@ pub planned-cells : (order : EdgeOrder) (plan : TilePlan) (part : PartState) →
 planned-cells order plan part w =
     Stands-cells part (edges_at plan (root plan)) (length order.edges) w.stands w.first (subst (λ (k : ℕ). k ≤ 1048576) (sym w.places) w.is_plan.frame.vertices) (λ e i. (planned-edge order plan part w e i).low)
 
--- what is noted in rising rank is no more than there are edges
-pub planned-few : (order : EdgeOrder) (plan : TilePlan) (part : PartState) (made : List ℕ) → IsPlanned order plan part →
-    (cells : List (Option ℕ)) × (AreByRank part.region cells × (made ≡ in_rank cells (length order.edges))) → length made ≤ 4194304
-planned-few order plan part made w c =
-    let f = in_rank-few c.0 (length order.edges) in let e : length made ≡ length (in_rank c.0 (length order.edges)) = ap (λ (l : List ℕ). length l) c.1.1 in
-    let s : length order.edges ≤ 4194304 = w.small in omega (arith, f, e, s)
-
 -- the places name the vertices
 pub planned-placing : (order : EdgeOrder) (plan : TilePlan) (part : PartState) → IsPlanned order plan part → IsPlacing (vertices plan) (place_of plan) (edges_at plan (root plan)) plan.edges
 planned-placing order plan part w = record {
@@ -106,45 +98,11 @@ planned-placing order plan part w = record {
   same = root-all plan w.is_plan;
 }
 
--- the lists that were made from the numbering, as they were read and written on the way
-pub record AreDrawn (order : EdgeOrder) (plan : TilePlan) (part : PartState) (made numbers leafs parents altitudes makers : List ℕ) (first_read second_read : List ℕ) (len : ℕ) : Type 0 where
-  pub noted_in : (cells : List (Option ℕ)) × (AreByRank part.region cells × (made ≡ in_rank cells (length order.edges)))
-  pub numbers_of : AreNumbers (count part.region) made numbers
-  pub first_is : first_read ≡ made
-  pub second_is : second_read ≡ made
-  pub len_is : len ≡ length made
-  pub leafs_are : leafs ≡ map (λ v. node_above numbers v (leaf_of part.region (place_of plan v))) (range_with_len 0 (vertices plan))
-  pub parents_are : parents ≡ leafs ++ map (inner_parent (count part.region) part.region made numbers) (range_with_len 0 len)
-  pub altitudes_are : altitudes ≡ replicate (count part.region) 0 ++ map (λ i. weight_at order (rank_of part.region (get_or first_read i 0))) (range_with_len 0 (length first_read))
-  pub makers_are : makers ≡ map (λ i. number_at_rank order (rank_of part.region (get_or second_read i 0))) (range_with_len 0 (length second_read))
-
--- The lists are those of the tree between places, with the leaves at the vertices.
-drawn-placed : (order : EdgeOrder) (plan : TilePlan) (part : PartState) (made numbers leafs parents altitudes makers first_read second_read : List ℕ) (len : ℕ) → IsPlanned order plan part →
-    AreDrawn order plan part made numbers leafs parents altitudes makers first_read second_read len →
+-- The lists that were made of the part are those of the tree between places, with the leaves at the vertices.
+drawn-placed : (order : EdgeOrder) (plan : TilePlan) (part : PartState) (parents altitudes makers : List ℕ) → IsPlanned order plan part →
+    AreDrawn part (vertices plan) (length order.edges) (place_of plan) (weight_at order) (number_at_rank order) parents altitudes makers →
     lists_of (vertices plan) parents altitudes makers ≡ placed_tree (vertices plan) (place_of plan) (edges_at plan (root plan))
-drawn-placed order plan part made numbers leafs parents altitudes makers first_read second_read len w d =
-    let n : ℕ = vertices plan in
-    let s : EdgeList = edges_at plan (root plan) in
-    let numbers_n : AreNumbers (vertices plan) made numbers = subst (λ (k : ℕ). AreNumbers k made numbers) w.places d.numbers_of in
-    let num : IsNumbering part (edges_at plan (root plan)) (vertices plan) made numbers =
-    numbering-of part (edges_at plan (root plan)) (vertices plan) (length order.edges) d.noted_in.0 made numbers w.stands (λ e i. (planned-edge order plan part w e i).low) d.noted_in.1.0 d.noted_in.1.1 numbers_n in
-    let p : parents ≡ (placed_tree (vertices plan) (place_of plan) (edges_at plan (root plan))).parents =
-    d.parents_are
-    ∙ ap (λ (l : List ℕ). l ++ map (inner_parent (count part.region) part.region made numbers) (range_with_len 0 len)) d.leafs_are
-    ∙ ap (λ (k : ℕ). map (λ v. node_above numbers v (leaf_of part.region (place_of plan v))) (range_with_len 0 (vertices plan)) ++ map (inner_parent (count part.region) part.region made numbers) (range_with_len 0 k)) d.len_is
-    ∙ ap (λ (k : ℕ). map (λ v. node_above numbers v (leaf_of part.region (place_of plan v))) (range_with_len 0 (vertices plan)) ++ map (inner_parent k part.region made numbers) (range_with_len 0 (length made))) w.places
-    ∙ ap (λ (l : List ℕ). l ++ map (inner_parent (vertices plan) part.region made numbers) (range_with_len 0 (length made)))
-    (leaf-parents part (edges_at plan (root plan)) (vertices plan) (place_of plan) made numbers num (covered part.region.first (count part.region) w.first w.places))
-    ∙ ap (λ (l : List ℕ). map (λ v. node_or (vertices plan) (edges_at plan (root plan)) v (next (edges_at plan (root plan)) (place_of plan v) 0)) (range_with_len 0 (vertices plan)) ++ l)
-    (inner-parents part (edges_at plan (root plan)) (vertices plan) made numbers num) in
-    let a : altitudes ≡ (placed_tree (vertices plan) (place_of plan) (edges_at plan (root plan))).altitudes =
-    subst (λ (l : List ℕ). altitudes ≡ replicate (count part.region) 0 ++ map (λ i. weight_at order (rank_of part.region (get_or l i 0))) (range_with_len 0 (length l))) d.first_is d.altitudes_are
-    ∙ ap (λ (k : ℕ). replicate k 0 ++ map (λ i. weight_at order (rank_of part.region (get_or made i 0))) (range_with_len 0 (length made))) w.places
-    ∙ ap (λ (l : List ℕ). replicate (vertices plan) 0 ++ l)
-    (inner-values part (edges_at plan (root plan)) (vertices plan) made numbers num (weight_at order) (λ e. e.weight) (λ e i. (planned-edge order plan part w e i).weight)) in
-    let m : makers ≡ (placed_tree (vertices plan) (place_of plan) (edges_at plan (root plan))).makers =
-    subst (λ (l : List ℕ). makers ≡ map (λ i. number_at_rank order (rank_of part.region (get_or l i 0))) (range_with_len 0 (length l))) d.second_is d.makers_are
-    ∙ inner-values part (edges_at plan (root plan)) (vertices plan) made numbers num (number_at_rank order) (λ e. e.number) (λ e i. (planned-edge order plan part w e i).number) in
+drawn-placed order plan part parents altitudes makers w d =
     ap (λ (l : List ℕ). lists_of (vertices plan) l altitudes makers) p
     ∙ ap (λ (l : List ℕ). lists_of (vertices plan) (placed_tree (vertices plan) (place_of plan) (edges_at plan (root plan))).parents l makers) a
     ∙ ap (λ (l : List ℕ). lists_of (vertices plan) (placed_tree (vertices plan) (place_of plan) (edges_at plan (root plan))).parents (placed_tree (vertices plan) (place_of plan) (edges_at plan (root plan))).altitudes l) m
@@ -152,12 +110,37 @@ drawn-placed order plan part made numbers leafs parents altitudes makers first_r
     covered : (f k : ℕ) → f ≡ 0 → k ≡ vertices plan → (v : ℕ) → v < vertices plan → (f ≤ place_of plan v) × (place_of plan v < f + k)
     covered f k zero_is all v lt = let b = places-below plan v w.is_plan lt in (omega arith, omega (arith, b))
 
+    num : IsNumbering part (edges_at plan (root plan)) (vertices plan) d.made d.numbers
+    num =
+        numbering-of part (edges_at plan (root plan)) (vertices plan) (length order.edges) d.cells d.made d.numbers w.stands (λ e i. (planned-edge order plan part w e i).low) d.by_rank d.made_is
+        (subst (λ (k : ℕ). AreNumbers k d.made d.numbers) w.places d.numbers_of)
+
+    p : parents ≡ (placed_tree (vertices plan) (place_of plan) (edges_at plan (root plan))).parents
+    p =
+        d.parents_are
+        ∙ ap (λ (k : ℕ). map (λ v. node_above d.numbers v (leaf_of part.region (place_of plan v))) (range_with_len 0 (vertices plan)) ++ map (inner_parent k part.region d.made d.numbers) (range_with_len 0 (length d.made))) w.places
+        ∙ ap (λ (l : List ℕ). l ++ map (inner_parent (vertices plan) part.region d.made d.numbers) (range_with_len 0 (length d.made)))
+        (leaf-parents part (edges_at plan (root plan)) (vertices plan) (place_of plan) d.made d.numbers num (covered part.region.first (count part.region) w.first w.places))
+        ∙ ap (λ (l : List ℕ). map (λ v. node_or (vertices plan) (edges_at plan (root plan)) v (next (edges_at plan (root plan)) (place_of plan v) 0)) (range_with_len 0 (vertices plan)) ++ l)
+        (inner-parents part (edges_at plan (root plan)) (vertices plan) d.made d.numbers num)
+
+    a : altitudes ≡ (placed_tree (vertices plan) (place_of plan) (edges_at plan (root plan))).altitudes
+    a =
+        d.altitudes_are
+        ∙ ap (λ (k : ℕ). replicate k 0 ++ map (λ id. weight_at order (rank_of part.region id)) d.made) w.places
+        ∙ ap (λ (l : List ℕ). replicate (vertices plan) 0 ++ l)
+        (inner-values part (edges_at plan (root plan)) (vertices plan) d.made d.numbers num (weight_at order) (λ e. e.weight) (λ e i. (planned-edge order plan part w e i).weight))
+
+    m : makers ≡ (placed_tree (vertices plan) (place_of plan) (edges_at plan (root plan))).makers
+    m = d.makers_are ∙ inner-values part (edges_at plan (root plan)) (vertices plan) d.made d.numbers num (number_at_rank order) (λ e. e.number) (λ e i. (planned-edge order plan part w e i).number)
+
 -- and so of the tree of the plan's edges
-pub drawn-tree : (order : EdgeOrder) (plan : TilePlan) (part : PartState) (n : ℕ) (made numbers leafs parents altitudes makers first_read second_read : List ℕ) (len : ℕ) → IsPlanned order plan part →
-    n ≡ vertices plan → AreDrawn order plan part made numbers leafs parents altitudes makers first_read second_read len → lists_of n parents altitudes makers ≡ tree_of (vertices plan) plan.edges
-drawn-tree order plan part n made numbers leafs parents altitudes makers first_read second_read len w is d =
+pub drawn-tree : (order : EdgeOrder) (plan : TilePlan) (part : PartState) (n ranks : ℕ) (parents altitudes makers : List ℕ) → IsPlanned order plan part →
+    n ≡ vertices plan → ranks ≡ length order.edges → AreDrawn part (vertices plan) ranks (place_of plan) (weight_at order) (number_at_rank order) parents altitudes makers →
+    lists_of n parents altitudes makers ≡ tree_of (vertices plan) plan.edges
+drawn-tree order plan part n ranks parents altitudes makers w is all d =
     ap (λ (k : ℕ). lists_of k parents altitudes makers) is
-    ∙ drawn-placed order plan part made numbers leafs parents altitudes makers first_read second_read len w d
+    ∙ drawn-placed order plan part parents altitudes makers w (subst (λ (k : ℕ). AreDrawn part (vertices plan) k (place_of plan) (weight_at order) (number_at_rank order) parents altitudes makers) all d)
     ∙ placed-tree (vertices plan) (place_of plan) (edges_at plan (root plan)) plan.edges (planned-placing order plan part w)
 
 -- a forest

@@ -4,6 +4,7 @@
 mod children;
 mod climbs;
 mod drawn;
+mod edges;
 mod forest;
 mod laws;
 mod list;
@@ -15,7 +16,7 @@ mod turns;
 
 pub use laws::{tree_is_a_forest, tree_under_other_names};
 pub use list::Ranked;
-pub use report::write_tree;
+pub use report::{tree_pieces, write_tree};
 pub use tree::Tree;
 
 #[cfg(test)]

@@ -4,9 +4,9 @@ ghost use Rattle.node_region.specs.Pool.{count};
 ghost use Rattle.border_climb.specs.Stands.{Stands};
 ghost use Rattle.partition_tree.specs.Ranked.{IsRankedList, edge_at, edges_of};
 
-use crate::drawn::{Edges, altitudes, leaf_parents, makers};
+use crate::drawn::drawn;
+use crate::edges::Edges;
 use crate::forest::Forest;
-use crate::numbering::Numbering;
 use crate::tree::Tree;
 use crate::turns::turns;
 use border_climb::Part;
@@ -101,10 +101,7 @@ fn numbered(alloc: Global, part: &Part, list: &[Ranked]) -> Result<Tree, AllocEr
 {
     let n = part.count();
     let edges = Listed { n, list };
-    let numbering = Numbering::of(alloc, part, list.len())?;
-    let mut parents = leaf_parents(alloc, &edges, part, &numbering)?;
-    numbering.push_inner_parents(part, &mut parents)?;
-    let altitudes = altitudes(alloc, &edges, part, &numbering.made)?;
-    let makers = makers(alloc, &edges, part, &numbering.made)?;
-    Tree::over(alloc, Forest::new(n, parents, altitudes, makers))
+    let lists = drawn(alloc, &edges, part, list.len())?;
+    let forest = Forest::new(n, lists.parents, lists.altitudes, lists.makers);
+    Tree::over(alloc, forest)
 }

@@ -8,9 +8,9 @@ ghost use Rattle.edge_order.specs.Order.{order_of, number_at_rank};
 ghost use Rattle.tile_plan.specs.Plan.{edges_at, place_of, root, vertices};
 ghost use Rattle.partition_tree.specs.Planned.{weight_at};
 
-use crate::drawn::{Edges, altitudes, leaf_parents, makers};
+use crate::drawn::drawn;
+use crate::edges::Edges;
 use crate::forest::Forest;
-use crate::numbering::Numbering;
 use crate::tree::Tree;
 use border_climb::Part;
 use edge_order::Order;
@@ -89,10 +89,7 @@ fn numbered(alloc: Global, order: &Order, plan: &Plan, part: &Part) -> Result<Tr
 {
     let n = plan.n();
     let edges = Planned { order, plan };
-    let numbering = Numbering::of(alloc, part, order.len() as usize)?;
-    let mut parents = leaf_parents(alloc, &edges, part, &numbering)?;
-    numbering.push_inner_parents(part, &mut parents)?;
-    let altitudes = altitudes(alloc, &edges, part, &numbering.made)?;
-    let makers = makers(alloc, &edges, part, &numbering.made)?;
-    Tree::over(alloc, Forest::new(n, parents, altitudes, makers))
+    let lists = drawn(alloc, &edges, part, order.len() as usize)?;
+    let forest = Forest::new(n, lists.parents, lists.altitudes, lists.makers);
+    Tree::over(alloc, forest)
 }

@@ -6,7 +6,7 @@ mod report;
 mod values;
 
 pub use regions::cut;
-pub use report::write_saliency;
+pub use report::{saliency_pieces, write_saliency};
 pub use values::saliency;
 
 #[cfg(test)]

@@ -1,0 +1,44 @@
+-- Texts in pieces.
+use Rattle.std.proofs.Common.{◌≡◌, ℕ, suc, ◌+◌, ◌-◌, ◌*◌, ◌/◌, ◌≤◌, ◌<◌, min, List, [], ◌∷◌, ◌++◌, Option, length, get_or, take, drop, sym, ap, ◌∙◌, subst, arith, append_assoc}
+use Rattle.std.proofs.Math.Nat.{suc-mul}
+use Rattle.std.proofs.Math.Seq.{split_at, take-append-add}
+use Rattle.std.proofs.KnownBytes.{Appends-trans}
+use Rattle.std.proofs.lemmas.List.{length-append, take-append-le}
+use Rattle.std.proofs.lemmas.List.Concat.{flat_map-append}
+use Rattle.std.specs.Io.KnownBytes.{Appends}
+use Rattle.std.specs.List.{flat_map}
+use Rattle.hg_base.specs.Outside.{AppendsPrefix}
+use Rattle.report_lines.proofs.LineForms.{lines_join}
+use Rattle.report_lines.specs.Lines.{cut, lines_from, lines_of_piece}
+
+-- the text with the lines of one more piece, whose number of pieces is then j
+pub piece_more : (f : ℕ → List ℕ) (old so_far piece new : List ℕ) (n k j : ℕ) → j ≡ k + 1 → so_far ≡ old ++ lines_from f 0 (cut n k) → piece ≡ lines_of_piece f n k → new ≡ so_far ++ piece → new ≡ old ++ lines_from f 0 (cut n j)
+piece_more f old so_far piece new n k j next before own pushed =
+    let size : suc k * (n / 16 + 1) ≡ k * (n / 16 + 1) + (n / 16 + 1) = suc-mul k (n / 16 + 1) in
+    let other : suc k ≡ k + 1 = omega arith in
+    let rises : cut n k + (cut n (k + 1) - cut n k) ≡ cut n (k + 1) = omega (arith, ap (λ (i : ℕ). i * (n / 16 + 1)) other) in
+    let first : cut n k ≡ 0 + cut n k = omega arith in
+    pushed
+    ∙ ap (λ (text : List ℕ). text ++ piece) before
+    ∙ append_assoc old (lines_from f 0 (cut n k)) piece
+    ∙ ap (λ (rest : List ℕ). old ++ (lines_from f 0 (cut n k) ++ rest)) own
+    ∙ ap (λ (i : ℕ). old ++ (lines_from f 0 (cut n k) ++ lines_from f i (cut n (k + 1) - cut n k))) first
+    ∙ ap (λ (rest : List ℕ). old ++ rest) (lines_join f 0 (cut n k) (cut n (k + 1) - cut n k))
+    ∙ ap (λ (i : ℕ). old ++ lines_from f 0 i) rises
+    ∙ ap (λ (i : ℕ). old ++ lines_from f 0 (cut n i)) (sym next)
+
+-- a prefix of a piece, behind those before it, is a prefix of the whole
+prefix_behind : (first middle last : Option (List ℕ)) (before piece after : List ℕ) → Appends first middle before → AppendsPrefix middle last piece → AppendsPrefix first last (before ++ (piece ++ after))
+prefix_behind first middle last before piece after taken (n, few, part) =
+    let within : length before + n ≤ length (before ++ (piece ++ after)) = omega (arith, length-append before (piece ++ after), length-append piece after) in
+    let front : take n (piece ++ after) ≡ take n piece = take-append-le n piece after few in
+    let whole : take (length before + n) (before ++ (piece ++ after)) ≡ before ++ take n piece = take-append-add before (piece ++ after) n ∙ ap (λ (rest : List ℕ). before ++ rest) front in
+    (length before + n, within, subst (λ (bytes : List ℕ). Appends first last bytes) (sym whole) (Appends-trans first middle last before (take n piece) taken part))
+
+-- the same of the piece at an index
+pub prefix_at : {X : Type 0} (f : X → List ℕ) (xs : List X) (i : ℕ) (x : X) (first middle last : Option (List ℕ)) → i < length xs → x ≡ get_or xs i x → Appends first middle (flat_map f (take i xs)) → AppendsPrefix middle last (f x)
+    → AppendsPrefix first last (flat_map f xs)
+prefix_at {X} f xs i x first middle last within here taken part =
+    let cut_there : xs ≡ take i xs ++ (x ∷ drop (suc i) xs) = split_at xs i x within ∙ ap (λ (y : X). take i xs ++ (y ∷ drop (suc i) xs)) (sym here) in
+    let parts : flat_map f xs ≡ flat_map f (take i xs) ++ (f x ++ flat_map f (drop (suc i) xs)) = ap (flat_map f) cut_there ∙ flat_map-append f (take i xs) (x ∷ drop (suc i) xs) in
+    subst (λ (bytes : List ℕ). AppendsPrefix first last bytes) (sym parts) (prefix_behind first middle last (flat_map f (take i xs)) (f x) (flat_map f (drop (suc i) xs)) taken part)

@@ -1,0 +1,20 @@
+-- Lists of lines, whole and in pieces.
+use Rattle.std.specs.Prelude.{ℕ, ◌+◌, ◌-◌, ◌*◌, ◌/◌, min, List, [], ◌∷◌, ◌++◌, decimal}
+use Rattle.std.specs.List.{range_with_len, flat_map}
+
+-- the lines of so many numbers, from a first one on, one after another
+abbrev pub lines_from : (ℕ → List ℕ) → ℕ → ℕ → List ℕ
+lines_from line first count = flat_map line (range_with_len first count)
+
+-- where piece k of sixteen begins
+abbrev pub cut : ℕ → ℕ → ℕ
+cut count k = min count (k * (count / 16 + 1))
+
+-- the lines of piece k of sixteen
+abbrev pub lines_of_piece : (ℕ → List ℕ) → ℕ → ℕ → List ℕ
+lines_of_piece line count k = lines_from line (cut count k) (cut count (k + 1) - cut count k)
+
+-- numbers with a space before each, and a line feed at the end
+abbrev pub spaced : List ℕ → List ℕ
+spaced [] = 10 ∷ []
+spaced (n ∷ ns) = 32 ∷ (decimal n ++ spaced ns)

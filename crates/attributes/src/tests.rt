@@ -3,7 +3,7 @@ ghost use Rattle.hg_base.specs.Rank.{ranked};
 ghost use Rattle.partition_tree.specs.Ranked.{IsRankedList, edges_of};
 ghost use Rattle.attributes.specs.Tests.{graph_from};
 
-use super::{Attributes, write_attributes};
+use super::{Attributes, attributes_pieces, write_attributes};
 use hg_base::{Edge, Graph};
 use partition_tree::{Ranked, Tree};
 use std::alloc::{AllocError, Global};
@@ -86,6 +86,8 @@ fn reports(rt: HostRuntime) -> Result<(), Fail> {
     let text = write_attributes(rt.alloc(), &found)?;
     let report = "attributes 7\n0 1 0 0\n1 1 0 0\n2 1 0 0\n3 1 0 0\n4 2 8 4\n5 2 6 3\n6 4 14 4\n";
     assert_eq!(rt; text.as_slice(), report.as_bytes());
+    let pieces = attributes_pieces(&rt, rt.alloc(), &found)?;
+    assert_eq!(rt; pieces.joined(rt.alloc())?.as_slice(), report.as_bytes());
     let found = attributes(&rt, rt.alloc(), &[1], &[], &[])?;
     let text = write_attributes(rt.alloc(), &found)?;
     assert_eq!(rt; text.as_slice(), "attributes 1\n0 1 0 0\n".as_bytes());

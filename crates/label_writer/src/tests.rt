@@ -1,4 +1,4 @@
-use super::{LabelFault, write_labels, write_pgm};
+use super::{LabelFault, labels_pieces, write_labels, write_pgm};
 use hg_base::Labels;
 use std::alloc::{AllocError, Global};
 use std::process::Abort;
@@ -53,6 +53,8 @@ fn texts(rt: HostRuntime) -> Result<(), Fail> {
         let labels = labels_of(&rt, rt.alloc(), rows, count)?;
         let text = write_labels(rt.alloc(), &labels)?;
         assert_eq!(&rt; text.as_slice(), report.as_bytes());
+        let pieces = labels_pieces(&rt, rt.alloc(), &labels)?;
+        assert_eq!(&rt; pieces.joined(rt.alloc())?.as_slice(), report.as_bytes());
     }
     Ok(())
 }

@@ -4,7 +4,7 @@ ghost use Rattle.border_climb.specs.Stands.{Stands};
 ghost use Rattle.tile_plan.specs.Plan.{edges_at, end_place, first_place, room_places, room_tiles, root, tile_count};
 ghost use Rattle.partition_tree.specs.Ranked.{IsRankedList};
 
-use super::{Ranked, Tree, write_tree};
+use super::{Ranked, Tree, tree_pieces, write_tree};
 use border_climb::{Part, build_tile, join};
 use edge_order::Order;
 use hg_base::{Edge, Graph, OutOfMemory};
@@ -210,6 +210,8 @@ fn lists(rt: HostRuntime) -> Result<(), Fail> {
         text.as_slice(),
         "tree 3 2\n0 2 0\n1 2 0\n2 2 7\n".as_bytes()
     );
+    let pieces = tree_pieces(&rt, rt.alloc(), &tree)?;
+    assert_eq!(rt; pieces.joined(rt.alloc())?.as_slice(), text.as_slice());
     assert!(rt; tree.leaves() <= 2 && 2 < tree.nodes());
     assert_eq!(rt; tree.maker(2), 5);
     Ok(())

@@ -3,7 +3,7 @@ ghost use Rattle.hg_base.specs.Levels.{AltitudesRise};
 ghost use Rattle.partition_tree.specs.Ranked.{IsRankedList};
 ghost use Rattle.saliency.specs.Values.{EndsShareRoots};
 
-use super::{cut, saliency, write_saliency};
+use super::{cut, saliency, saliency_pieces, write_saliency};
 use hg_base::{Edge, Graph, OutOfMemory};
 use partition_tree::{Ranked, Tree};
 use std::alloc::{AllocError, Global};
@@ -181,6 +181,8 @@ fn saliencies(rt: HostRuntime) -> Result<(), Fail> {
     assert_saliency(&rt, rt.alloc(), 4, edges, &RING, report)?;
     let edges: &[(u32, u32, u32)] = &[(0, 1, 4)];
     assert_saliency(&rt, rt.alloc(), 3, edges, &APART, "saliency 1\n0 4\n")?;
+    let text = saliency_pieces(&rt, rt.alloc(), &[1, 3])?.joined(rt.alloc())?;
+    assert_eq!(rt; text.as_slice(), b"saliency 2\n0 1\n1 3\n".as_slice());
     Ok(())
 }
 

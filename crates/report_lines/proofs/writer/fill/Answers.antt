@@ -1,8 +1,6 @@
-use Rattle.std.proofs.Common.{◌≡◌, ◌-◌, ◌*◌, ◌<◌, ◌≤◌, [], ◌∷◌, length, get_or, drop, set, ◌∙◌, ap, sym, arith, rules}
+use Rattle.std.proofs.Common.{◌-◌, ◌≤◌, length, get_or, arith, rules}
 use Rattle.std.specs.Prelude.{decimal}
-use Rattle.std.proofs.Math.ListN.{drop_of_length-le}
 use Rattle.std.proofs.lemmas.Fmt.{length-decimal-le}
-use Rattle.report_lines.specs.Lines.{spaced}
 use Rattle.report_lines.proofs.LineForms.{number_before, last_byte}
 use Rattle.report_lines.proofs.writer.fill.Goals as goal
 

@@ -1,4 +1,4 @@
-use Rattle.std.proofs.Common.{◌≡◌, ◌∙◌, ap, List, ℕ, ◌++◌}
+use Rattle.std.proofs.Common.{◌∙◌, ap, List, ℕ, ◌++◌}
 use Rattle.std.proofs.lemmas.Result.{on_ok_weaker}
 use Rattle.report_lines.proofs.LineForms.{line_from}
 use Rattle.report_lines.proofs.writer.LineWriter.push_line.Goals as goal

@@ -1,7 +1,6 @@
 -- The tree of a graph, and the texts of reports about it.
 use Rattle.std.proofs.Common.{◌≡◌, ℕ, ◌≤◌, [], length, refl, sym, ap, ◌∙◌, subst, arith}
-use Rattle.std.specs.Prelude.{Option, None, Result, Ok, Err, IfOk, Vec}
-use Rattle.std.specs.declared.alloc.Global.{Global}
+use Rattle.std.specs.Prelude.{Option, None, List, Result, Ok, Err, IfOk}
 use Rattle.edge_order.specs.Order.{EdgeOrder, order_of}
 use Rattle.hg_base.specs.Edges.{AreWithin}
 use Rattle.hg_base.specs.Graph.{WeightedGraph, first_end, second_end}
@@ -59,14 +58,14 @@ pub is_hierarchy : (g : WeightedGraph) (t : ParentTree) → IsTreeOf g t → IsH
 is_hierarchy g t is = record { nodes = front-tree g.n (ranked g) (AreApart-ranked g) is.ends; saliencies = λ e h. saliency-is g e h; watershed = watershed-is g is.ends is.read }
 
 -- the text of a graph's zones
-pub text_of_zones : {E : Type 0} (report : Report) (g : WeightedGraph) (t : ParentTree) (r : Result (Vec ℕ Global) E) → report ≡ Zones → IsTreeOf g t → IfOk r (λ text. text.items ≡ tree_report (zones_of t)) → IfOk r (λ text. text.items ≡ text_of report g)
+pub text_of_zones : {E : Type 0} (report : Report) (g : WeightedGraph) (t : ParentTree) (r : Result (List ℕ) E) → report ≡ Zones → IsTreeOf g t → IfOk r (λ text. text ≡ tree_report (zones_of t)) → IfOk r (λ text. text ≡ text_of report g)
 unfolding text_of
 text_of_zones report g t (Ok text) same is made = made ∙ ap (λ (u : ParentTree). tree_report (zones_of u)) is.same ∙ ap (λ (q : Report). text_of q g) (sym same)
 text_of_zones report g t (Err e) same is made = tt
 
 -- the text of a graph's regions at a level
-pub text_of_regions : {E : Type 0} (report : Report) (kind : Option Kind) (level : ℕ) (g : WeightedGraph) (t : ParentTree) (r : Result (Vec ℕ Global) E) → report ≡ Cut kind level → kind ≡ None → IsTreeOf g t
-    → IfOk r (λ text. text.items ≡ labels_report (labelling (shares t level) t.leaves)) → IfOk r (λ text. text.items ≡ text_of report g)
+pub text_of_regions : {E : Type 0} (report : Report) (kind : Option Kind) (level : ℕ) (g : WeightedGraph) (t : ParentTree) (r : Result (List ℕ) E) → report ≡ Cut kind level → kind ≡ None → IsTreeOf g t
+    → IfOk r (λ text. text ≡ labels_report (labelling (shares t level) t.leaves)) → IfOk r (λ text. text ≡ text_of report g)
 unfolding text_of
 text_of_regions report kind level g t (Ok text) same own is made =
     made ∙ ap (λ (u : ParentTree). labels_report (labelling (shares u level) u.leaves)) is.same ∙ ap (λ (k : Option Kind). text_of (Cut k level) g) (sym own) ∙ ap (λ (q : Report). text_of q g) (sym same)

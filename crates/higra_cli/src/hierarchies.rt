@@ -1,9 +1,11 @@
 // The hierarchical watersheds of a graph, and the trees that are cut.
-ghost use Rattle.std.specs.Prelude.{◌≡◌, IfOk};
+ghost use Rattle.std.specs.Prelude.{◌≡◌, ◌^◌, ◌<◌, All, IfOk, length};
 ghost use Rattle.attributes.specs.Attributes.{attributes_of};
 ghost use Rattle.edge_order.specs.Order.{order_of};
 ghost use Rattle.extinction.specs.Hierarchy.{hierarchy_of};
+ghost use Rattle.hg_base.specs.Levels.{AltitudesRise};
 ghost use Rattle.hg_base.specs.Tree.{graph_tree};
+ghost use Rattle.partition_tree.specs.Forest.{nodes};
 ghost use Rattle.watershed_cut.specs.MinimumLabels.{minima_of};
 ghost use Rattle.higra_cli.specs.Ordered.{IsTreeOf};
 ghost use Rattle.higra_cli.specs.Reports.{cut_tree, graph_energies, regions};
@@ -23,6 +25,42 @@ use watershed_cut::Minima;
 pub(crate) struct Basins {
     pub(crate) attributes: Attributes,
     pub(crate) minima: Minima,
+}
+
+impl Basins {
+    /// Those of a graph, of which order and tree are its own.
+    pub(crate) fn of(
+        alloc: Global,
+        graph: &Graph,
+        order: &Order,
+        tree: &Tree,
+    ) -> Result<Basins, OutOfMemory>
+        requires order { order.now ≡ order_of graph.now }
+        requires tree { tree.now ≡ graph_tree graph.now }
+        ensures attributes { IfOk result (λ basins. basins.attributes ≡ attributes_of graph.now) }
+        ensures minima { IfOk result (λ basins. basins.minima ≡ minima_of graph.now) }
+    {
+        let attributes = Attributes::of(alloc, graph, tree)?;
+        let minima = Minima::of(alloc, graph, order, tree)?;
+        Ok(Basins { attributes, minima })
+    }
+
+    /// The hierarchical watershed of the graph by a kind.
+    pub(crate) fn hierarchy(
+        &self,
+        alloc: Global,
+        graph: &Graph,
+        tree: &Tree,
+        kind: Kind,
+    ) -> Result<Tree, OutOfMemory>
+        requires tree { tree.now ≡ graph_tree graph.now }
+        requires attributes { self.now.attributes ≡ attributes_of graph.now }
+        requires minima { self.now.minima ≡ minima_of graph.now }
+        ensures hierarchy { IfOk result (λ hierarchy. hierarchy ≡ hierarchy_of graph.now kind) }
+        ensures rises { IfOk result (λ hierarchy. AltitudesRise hierarchy) }
+    {
+        hierarchical(alloc, graph, tree, &self.attributes, &self.minima, kind)
+    }
 }
 
 /// The labels of the regions of a graph's own tree, or of its hierarchical watershed by a kind, at a level.
@@ -46,4 +84,33 @@ pub(crate) fn regions(
             cut(alloc, &hierarchy, level)
         }
     }
+}
+
+/// The energies of the nodes of a graph's tree, with a penalty for each region.
+pub(crate) fn energies(
+    alloc: Global,
+    graph: &Graph,
+    tree: &Tree,
+    penalty: u64,
+) -> Result<Vec<u128>, OutOfMemory>
+    requires { IsTreeOf graph.now tree.now }
+    ensures energies { IfOk result (λ energies. energies.items ≡ graph_energies graph.now penalty) }
+    ensures one_each { IfOk result (λ energies. length energies.items ≡ nodes tree.now) }
+    ensures below { IfOk result (λ energies. All (λ e. e < 2 ^ 65) energies.items) }
+{
+    let attributes = Attributes::of(alloc, graph, tree)?;
+    let areas = areas_of(alloc, &attributes).map_err(|_| OutOfMemory)?;
+    node_energies(alloc, tree, &areas, penalty)
+}
+
+// The areas of the nodes, one by one.
+fn areas_of(alloc: Global, attributes: &Attributes) -> Result<Vec<u64>, AllocError>
+    ensures { IfOk result (λ areas. areas.items ≡ attributes.now.areas) }
+{
+    let nodes = attributes.nodes();
+    let mut areas = Vec::with_capacity(alloc, nodes as usize)?;
+    for i in 0..nodes {
+        areas.push(attributes.area(i))?;
+    }
+    Ok(areas)
 }

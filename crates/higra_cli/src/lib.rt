@@ -2,9 +2,11 @@
 #![tactic(auto)]
 
 mod command;
+mod components;
 mod decoding;
 mod drawing;
 mod ending;
+mod hierarchies;
 mod input;
 pub mod laws;
 mod line;
@@ -15,6 +17,7 @@ mod reading;
 mod request;
 mod running;
 mod summary;
+mod texts;
 mod words;
 mod writing;
 

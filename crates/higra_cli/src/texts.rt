@@ -21,12 +21,12 @@ ghost use Rattle.higra_cli.specs.Ordered.{IsTreeOf};
 ghost use Rattle.higra_cli.specs.Reports.{cut_tree, graph_energies, graph_energy_cut, regions, text_of};
 ghost use Rattle.higra_cli.specs.Running.{IsHierarchy};
 
-use super::hierarchies::{Basins, cut_tree};
+use super::hierarchies::{Basins, energies, regions};
 use super::request::Report;
-use super::summary::{summary_of, write_summary};
+use super::summary::{summary_of, summary_pieces};
 use attributes::{Attributes, attributes_pieces};
 use edge_order::Order;
-use energy_cut::{energy_pieces, least_cut, node_energies};
+use energy_cut::{energy_pieces, least_cut};
 use extinction::{Kind, extinctions, hierarchical_pieces};
 use forest_witness::witness;
 use hg_base::{Graph, OutOfMemory};
@@ -34,7 +34,7 @@ use label_writer::labels_pieces;
 use partition_tree::{Tree, tree_pieces};
 use quasi_flat_zones::zones;
 use report_lines::Pieces;
-use saliency::{cut, saliency, saliency_pieces};
+use saliency::{saliency, saliency_pieces};
 use std::alloc::Global;
 use std::thread::Threads;
 use watershed_cut::{Minima, minima_pieces, watershed, watershed_pieces};
@@ -66,7 +66,7 @@ pub(crate) fn text_of(
         Report::Watershed => watershed_text(rt, alloc, graph, order, tree),
         Report::Hierarchical(kind) => hierarchical_text(rt, alloc, graph, order, tree, kind),
         Report::Cut(kind, level) => regions_text(rt, alloc, graph, order, tree, kind, level),
-        Report::Summary => write_summary(alloc, &summary_of(alloc, graph, order, tree)?),
+        Report::Summary => summary_pieces(alloc, &summary_of(alloc, graph, order, tree)?),
         Report::Mintree | Report::Maxtree => Ok(Pieces::new(alloc)),
         Report::Energy(penalty) => energy_text(rt, alloc, graph, tree, penalty),
     }

@@ -1,16 +1,16 @@
 -- The way up: what a climb meets, step by step.
 use Rattle.std.proofs.Common.{◌≡◌, ℕ, zero, ◌<◌, ◌≤◌, ◌-◌, ◌^◌, inl, inr, refl, sym, ◌∙◌, subst, ap, arith, cond, Bool, ◌==◌}
-use Rattle.std.specs.Prelude.{Option, Some, None, IfSome}
+use Rattle.std.specs.Prelude.{Option, Some, None, IfSome, IfNone}
 use Rattle.std.proofs.lemmas.Bool.{cases_Bool, eqb-true}
-use Rattle.node_region.specs.Pool.{CellPool, IsCovered, IsUsed, cell_at, leaf_of, turn_of, hint_of, finger_of, hinted_cell}
+use Rattle.node_region.specs.Pool.{CellPool, IsCovered, IsUsed, cell_at, leaf_of, turn_of, finger_of, hinted_cell}
 use Rattle.node_region.specs.declared.cell.Cell.{Cell}
 use Rattle.node_region.specs.declared.cell.Hint.{Hint}
 use Rattle.border_climb.specs.declared.climbing.Met.{Met}
+use Rattle.border_climb.specs.declared.climbing.Seen.{Seen}
 use Rattle.border_climb.specs.Stands.{IsMet}
-use Rattle.border_climb.specs.Linked.{HasRank}
 use Rattle.border_climb.specs.Notes.{IsSound, IsClimbable, IsNoted}
-use Rattle.border_climb.specs.Climbs.{Ends, IsBelow, IsNamed, IsFurther, IsReached, IsClimbed, IsStart, IsTopCell}
-use Rattle.border_climb.proofs.Pools.{SameLinks, met-same, rank-same, met-on, met-join, met-rises, one-cell, used-from, some-map}
+use Rattle.border_climb.specs.Climbs.{Ends, IsBelow, IsNamed, IsRead, IsSeen, IsFurther, IsReached, IsClimbed, IsStart, IsBegun, IsTopCell}
+use Rattle.border_climb.proofs.Pools.{SameLinks, links-back, live-same, met-same, rank-same, met-on, met-join, met-rises, one-cell, used-from, some-map, sound-climbable}
 
 -- what a note means that is found
 pub named-found : (pool : CellPool) (mark : Option Hint) (h : Hint) (c : Cell) → mark ≡ Some h → hinted_cell pool h ≡ Some c → h.turn < 2 ^ 32 - 1 → IsNamed pool mark (record { id = h.cell; rank = c.rank })
@@ -53,23 +53,42 @@ further-above pool here k c is level r next b =
     }
 
 -- the noted cell is further up
-pub further-noted : (pool : CellPool) (here : Met) → IsClimbable pool here.rank → HasRank pool here.id here.rank → (mark : Option Hint) → mark ≡ hint_of pool here.id → (next : Met) → IsNamed pool mark next → IsFurther pool here next
-further-noted pool here k seat mark at next n =
-    let level : seat.cell.rank ≡ here.rank = seat.has in
-    let way = k.hints here.id seat.cell n.hint seat.is (omega arith) (sym at ∙ n.is) n.live in
-    let met : IsMet pool way.0 seat.cell.up next.id = subst (λ (j : ℕ). IsMet pool way.0 seat.cell.up j) n.id way.1 in
+pub further-noted : (pool : CellPool) (here : Seen) → IsSeen pool here → IsClimbable pool here.met.rank → (next : Met) → IsNamed pool here.entry.hint next → IsFurther pool here.met next
+further-noted pool here s k next n =
+    let level : here.entry.cell.rank ≡ here.met.rank = s.rank in
+    let way = s.note n.hint n.is n.live in
+    let met : IsMet pool way.0 here.entry.cell.up next.id = subst (λ (j : ℕ). IsMet pool way.0 here.entry.cell.up j) n.id way.1 in
     let next_is : cell_at pool next.id ≡ Some n.live.cell = ap (λ (j : ℕ). cell_at pool j) (sym n.id) ∙ n.live.is in
-    let rises = met-rises pool here.rank k way.0 here.id seat.cell seat.is (omega arith) seat.cell.up refl next.id met in
+    let rises = met-rises pool here.met.rank k way.0 here.met.id here.entry.cell s.cell (omega arith) here.entry.cell.up refl next.id met in
     let same : rises.0 ≡ n.live.cell = one-cell pool next.id rises.0 n.live.cell rises.1.0 next_is in
-    let higher : seat.cell.rank < n.live.cell.rank = subst (λ (y : Cell). seat.cell.rank < y.rank) same rises.1.1 in
+    let higher : here.entry.cell.rank < n.live.cell.rank = subst (λ (y : Cell). here.entry.cell.rank < y.rank) same rises.1.1 in
     let there : n.live.cell.rank ≡ next.rank = n.rank in
     record {
-      seat = seat;
+      seat = record { cell = here.entry.cell; is = s.cell; has = s.rank };
       links = way.0;
       met = met;
       next_seat = record { cell = n.live.cell; is = next_is; has = n.rank };
       up = omega arith;
     }
+
+-- what was read where one can climb has a note that leads up
+pub seen-read : (pool : CellPool) (seen : Seen) → IsClimbable pool seen.met.rank → IsRead pool seen → IsSeen pool seen
+seen-read pool seen k r =
+    let level : seen.entry.cell.rank ≡ seen.met.rank = r.rank in
+    record {
+      cell = r.kept.cell;
+      rank = r.rank;
+      turn = r.kept.turn;
+      note = λ h is live. k.hints seen.met.id seen.entry.cell h r.kept.cell (omega arith) (r.kept.hint ∙ is) live;
+    }
+
+pub seen-same : (p q : CellPool) → SameLinks p q → (seen : Seen) → IsSeen p seen → IsSeen q seen
+seen-same p q s seen e = record {
+  cell = s.cells seen.met.id ∙ e.cell;
+  rank = e.rank;
+  turn = s.turns seen.met.id ∙ e.turn;
+  note = λ h is live. (let way = e.note h is (live-same q p (links-back p q s) h live) in (way.0, met-same p q s way.0 seen.entry.cell.up h.cell way.1));
+}
 
 pub further-same : (p q : CellPool) → SameLinks p q → (here next : Met) → IsFurther p here next → IsFurther q here next
 further-same p q s here next f = record {
@@ -96,17 +115,25 @@ reached-on pool start here next a b =
 pub ends-same : (p q : CellPool) → SameLinks p q → (o : Option ℕ) (r : ℕ) → Ends p o r → Ends q o r
 ends-same p q s o r e j eq = let m = e j eq in (m.0, (s.cells j ∙ m.1.0, m.1.1))
 
+-- a link to a cell of rank r or more leads to none below r
+pub ends-above : (pool : CellPool) (link : Option ℕ) (i r : ℕ) (c : Cell) → link ≡ Some i → cell_at pool i ≡ Some c → r ≤ c.rank → Ends pool link r
+ends-above pool link i r c leads is high j there =
+    let one : Some i ≡ Some j = sym leads ∙ there in
+    let same : i ≡ j = cc in
+    (c, (subst (λ (k : ℕ). cell_at pool k ≡ Some c) same is, high))
+
 -- a climb to rank r: where it is, and which cell waits for a note
-pub record IsClimbing (old new : CellPool) (start here : Met) (r : ℕ) (waiting : Option Met) : Type 0 where
+pub record IsClimbing (old new : CellPool) (start : Met) (here : Seen) (r : ℕ) (waiting : Option Met) : Type 0 where
   pub noted : IsNoted old new start.rank
-  pub reached : IsReached old start here
-  pub low : here.rank < r
-  pub waits : IfSome waiting (λ w. (start.rank ≤ w.rank) × IsFurther old w here)
+  pub reached : IsReached old start here.met
+  pub seen : IsSeen old here
+  pub low : here.met.rank < r
+  pub waits : IfSome waiting (λ w. (start.rank ≤ w.rank) × IsFurther old w here.met)
 
 -- which cell waits then leads to the next
-pub waiting-further : (old new : CellPool) (start here : Met) (r : ℕ) (waiting : Option Met) (next : Met) → IsClimbing old new start here r waiting → IsFurther old here next →
+pub waiting-further : (old new : CellPool) (start : Met) (here : Seen) (r : ℕ) (waiting : Option Met) (next : Met) → IsClimbing old new start here r waiting → IsFurther old here.met next →
     IfSome waiting (λ low. (start.rank ≤ low.rank) × IsFurther old low next)
-waiting-further old new start here r waiting next k f = some-map _ _ waiting (λ low w. (w.0, further-on old low here next w.1 f)) k.waits
+waiting-further old new start here r waiting next k f = some-map _ _ waiting (λ low w. (w.0, further-on old low here.met next w.1 f)) k.waits
 
 -- where a climb from a place begins, from what is noted there
 pub starts-noted : (pool : CellPool) (place r : ℕ) → IsSound pool → IsCovered pool place → (mark : Option Hint) → mark ≡ finger_of pool place → (met : Met) → IsNamed pool mark met → met.rank < r → IsStart pool place r met
@@ -127,6 +154,26 @@ starts-first pool place r met b = record {
   seat = b.seat;
   low = b.low;
 }
+
+-- where a climb begins at the first cell, if there is one below r
+pub begun-below : (pool : CellPool) (place r : ℕ) (link : Option ℕ) → link ≡ leaf_of pool place → (next : Option Seen) → IsSound pool
+    → IfSome next (λ s. IsBelow pool link r s.met) → IfSome next (IsRead pool) → IfNone next (Ends pool link r) → IsBegun pool place r next
+begun-below pool place r link is None s below read none = subst (λ (o : Option ℕ). Ends pool o r) is none
+begun-below pool place r link is (Some next) s below read none =
+    (starts-first pool place r next.met (subst (λ (o : Option ℕ). IsBelow pool o r next.met) is below), seen-read pool next (sound-climbable pool s next.met.rank) read)
+
+-- where a climb begins, whatever else was noted since
+pub begun-same : (p q : CellPool) → SameLinks p q → (place r : ℕ) (begun : Option Seen) → IsBegun p place r begun → IsBegun q place r begun
+begun-same p q s place r None ends = subst (λ (o : Option ℕ). Ends q o r) (sym (s.leafs place)) (ends-same p q s (leaf_of p place) r ends)
+begun-same p q s place r (Some start) begun = (
+  record {
+    links = begun.0.links;
+    met = subst (λ (o : Option ℕ). IsMet q begun.0.links o start.met.id) (sym (s.leafs place)) (met-same p q s begun.0.links (leaf_of p place) start.met.id begun.0.met);
+    seat = rank-same p q s start.met.id start.met.rank begun.0.seat;
+    low = begun.0.low;
+  },
+  seen-same p q s start begun.1,
+)
 
 -- the climb from there ends at the last cell below r above the place
 pub top-climbed : (pool : CellPool) (place r : ℕ) (start last : Met) → IsStart pool place r start → IsClimbed pool start r last → IsTopCell pool place r last.id

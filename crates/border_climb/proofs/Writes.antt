@@ -11,11 +11,12 @@ use Rattle.node_region.specs.Pool.{CellPool, entry, cell_at, turn_of, with_given
 use Rattle.node_region.specs.declared.cell.Cell.{Cell}
 use Rattle.node_region.proofs.Entries.{entry-set_same, entry-set_other}
 use Rattle.border_climb.specs.declared.climbing.Met.{Met}
+use Rattle.border_climb.specs.declared.climbing.Seen.{Seen}
 use Rattle.border_climb.specs.declared.given.Given.TheVariants as answers
 use Rattle.border_climb.specs.Linked.{HasRank, Points}
 use Rattle.border_climb.specs.Notes.{IsNoted}
 use Rattle.border_climb.specs.Splicing.{IsRelinked, IsDropped, IsSeam, IsMerged, KeepsRange, rank_of}
-use Rattle.border_climb.specs.Climbs.{IsClimbed, with_up}
+use Rattle.border_climb.specs.Climbs.{IsRead, IsClimbed, with_up}
 use Rattle.border_climb.proofs.Linked.{chain-met}
 use Rattle.border_climb.proofs.Merging.{relinked-cases, relinked-ranks, merging-turned, run-along}
 use Rattle.border_climb.proofs.Closing.{apart-merging, close-single, close-both}
@@ -102,6 +103,10 @@ notes-dropped p q id c is eq =
   where
     none : (b : Cell) → None ≡ Some b → ⊥
     none b h = cc
+
+-- what was read has the rank that was met
+pub read-seat : (pool : CellPool) (seen : Seen) → IsRead pool seen → HasRank pool seen.met.id seen.met.rank
+read-seat pool seen r = record { cell = seen.entry.cell; is = r.kept.cell; has = r.rank }
 
 -- one step of the merge, as the code does it
 pub record IsAdvance (old mid new : CellPool) (t : ℕ) (low high top : Met) (c : Cell) : Type 0 where

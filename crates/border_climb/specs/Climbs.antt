@@ -1,10 +1,11 @@
 -- What a climb meets.
 use Rattle.std.specs.Prelude.{◌≡◌, ℕ, ◌<◌, ◌≤◌, Option, Some, None}
 use Rattle.std.specs.Option.{option_map_or}
-use Rattle.node_region.specs.Pool.{CellPool, cell_at, leaf_of, with_cell, with_leaf, with_taken}
+use Rattle.node_region.specs.Pool.{CellPool, IsKept, cell_at, leaf_of, turn_of, with_cell, with_leaf, with_taken}
 use Rattle.node_region.specs.declared.cell.Cell.{Cell}
 use Rattle.node_region.specs.declared.cell.Hint.{Hint}
 use Rattle.border_climb.specs.declared.climbing.Met.{Met}
+use Rattle.border_climb.specs.declared.climbing.Seen.{Seen}
 use Rattle.border_climb.specs.Stands.{IsMet}
 use Rattle.border_climb.specs.Linked.{HasRank}
 use Rattle.border_climb.specs.Notes.{IsLive}
@@ -26,6 +27,19 @@ pub record IsNamed (pool : CellPool) (note : Option Hint) (met : Met) : Type 0 w
   pub live : IsLive pool hint
   pub id : hint.cell ≡ met.id
   pub rank : live.cell.rank ≡ met.rank
+
+-- the cell that was met has all that was read there
+pub record IsRead (pool : CellPool) (seen : Seen) : Type 0 where
+  pub kept : IsKept pool seen.met.id seen.entry
+  pub rank : seen.entry.cell.rank ≡ seen.met.rank
+
+-- The cell that was met has the cell and the turn that were read there. The note that was read, which need not be there
+-- any more, leads up.
+pub record IsSeen (pool : CellPool) (seen : Seen) : Type 0 where
+  pub cell : cell_at pool seen.met.id ≡ Some seen.entry.cell
+  pub rank : seen.entry.cell.rank ≡ seen.met.rank
+  pub turn : turn_of pool seen.met.id ≡ seen.entry.turn
+  pub note : (h : Hint) → seen.entry.hint ≡ Some h → IsLive pool h → (d : ℕ) × IsMet pool d seen.entry.cell.up h.cell
 
 -- climbing up from one cell meets the other
 pub record IsFurther (pool : CellPool) (here next : Met) : Type 0 where
@@ -54,6 +68,11 @@ pub record IsStart (pool : CellPool) (place r : ℕ) (start : Met) : Type 0 wher
   pub met : IsMet pool links (leaf_of pool place) start.id
   pub seat : HasRank pool start.id start.rank
   pub low : start.rank < r
+
+-- a climb from the place to rank r can begin at the cell that was seen, or nothing below r is above the place
+abbrev pub IsBegun : CellPool → ℕ → ℕ → Option Seen → Type 0
+IsBegun pool place r None = Ends pool (leaf_of pool place) r
+IsBegun pool place r (Some start) = IsStart pool place r start.met × IsSeen pool start
 
 -- the last cell of rank below r above a place
 pub record IsTopCell (pool : CellPool) (place r id : ℕ) : Type 0 where

@@ -5,9 +5,9 @@ ghost use Rattle.node_region.specs.Pool.{IsCovered, IsUsed};
 ghost use Rattle.border_climb.specs.Linked.{HasRank};
 ghost use Rattle.border_climb.specs.Notes.{IsSound};
 ghost use Rattle.border_climb.specs.Splicing.{up_of, rank_of, KeepsRange, SomeSeam, StepsTo, EndsIn, IsLinkedList, SomeList, CanOpen, IsSpliced};
-ghost use Rattle.border_climb.specs.Climbs.{with_up, opened_pool};
+ghost use Rattle.border_climb.specs.Climbs.{IsRead, with_up, opened_pool};
 
-use crate::climbing::{Met, climb, last_below};
+use crate::climbing::{Met, Seen, begin, climb, last_below};
 use crate::given::Given;
 use hg_base::PlacedEdge;
 use node_region::{Cell, Region};
@@ -57,22 +57,21 @@ fn link(region: &mut Region, id: u32, up: Option<u32>)
 }
 
 // Links the seam to the lower of the two cells that come next, and runs up its chain to the last cell below the other.
-fn advance(region: &mut Region, last: u32, low: Met, high: Met) -> Seam
-    requires seam { SomeSeam region.old last (Some low.id) (Some high.id) }
-    requires low { HasRank region.old low.id low.rank }
+fn advance(region: &mut Region, last: u32, low: Seen, high: Met) -> Seam
+    requires seam { SomeSeam region.old last (Some low.met.id) (Some high.id) }
+    requires low { IsRead region.old low }
     requires high { HasRank region.old high.id high.rank }
-    requires lower { low.rank < high.rank }
-    ensures steps { StepsTo region.old last (Some low.id) (Some high.id) region.new result.last result.first result.second }
+    requires lower { low.met.rank < high.rank }
+    ensures steps { StepsTo region.old last (Some low.met.id) (Some high.id) region.new result.last result.first result.second }
     ensures rises { rank_of region.old last < rank_of region.new result.last }
     ensures small { rank_of region.new result.last < 2 ^ 32 }
     ensures range { KeepsRange region.old region.new }
 {
     let next = climb(region, low, high.rank);
-    let first = region.get(next.id).up;
-    link(region, last, Some(low.id));
+    link(region, last, Some(low.met.id));
     Seam {
-        last: next.id,
-        first,
+        last: next.met.id,
+        first: next.entry.cell.up,
         second: Some(high.id),
     }
 }
@@ -86,18 +85,24 @@ fn step(region: &mut Region, last: u32, first: u32, second: u32) -> Seam
     ensures small { rank_of region.new result.last < 2 ^ 32 }
     ensures range { KeepsRange region.old region.new }
 {
+    let entry = region.entry(first);
+    let other_entry = region.entry(second);
     let one = Met {
         id: first,
-        rank: region.get(first).rank,
+        rank: entry.cell.rank,
     };
     let other = Met {
         id: second,
-        rank: region.get(second).rank,
+        rank: other_entry.cell.rank,
     };
     if one.rank < other.rank {
-        advance(region, last, one, other)
+        advance(region, last, Seen { met: one, entry }, other)
     } else {
-        advance(region, last, other, one)
+        let low = Seen {
+            met: other,
+            entry: other_entry,
+        };
+        advance(region, last, low, one)
     }
 }
 
@@ -197,8 +202,10 @@ pub(crate) fn splice(region: &mut Region, e: PlacedEdge) -> Given
     ensures range { KeepsRange region.old region.new }
     ensures small { e.rank < 2 ^ 32 }
 {
-    let first = last_below(region, e.a, e.rank);
-    let second = last_below(region, e.b, e.rank);
+    let first_begun = begin(region, e.a, e.rank);
+    let second_begun = begin(region, e.b, e.rank);
+    let first = last_below(region, e.a, first_begun, e.rank);
+    let second = last_below(region, e.b, second_begun, e.rank);
     if are_one(first, second) {
         return Given::Redundant;
     }

@@ -10,7 +10,7 @@ use Rattle.node_region.specs.declared.chunk.Place.{Place}
 use Rattle.node_region.specs.declared.chunk.FreeList.{FreeList}
 use Rattle.node_region.specs.declared.tables.Tables.{Tables}
 use Rattle.node_region.specs.declared.region.Region.TheInside.{Inside}
-use Rattle.node_region.specs.Pool.{CellPool, IsPool, IsCovered, IsUsed, cell_at, turn_of, hint_of, leaf_of, finger_of, hinted_cell, with_cell, with_leaf, with_hint, with_finger}
+use Rattle.node_region.specs.Pool.{CellPool, IsPool, IsCovered, IsUsed, IsKept, cell_at, turn_of, hint_of, leaf_of, finger_of, hinted_cell, with_cell, with_leaf, with_hint, with_finger}
 use Rattle.node_region.specs.Tables.{slots_of, places_of, cells_in, cell_of, link_of, thread, told_after, free_in, IsTail}
 use Rattle.node_region.specs.Kept.{KeepsTables}
 use Rattle.node_region.specs.RegionFields.{pool_of, IsRegion}
@@ -40,6 +40,11 @@ turn-read r n id s e =
     let place : id - r.tables.first ≡ n = omega (arith, e.number) in
     turn-is r.tables.first (map (λ x. x.turn) (slots_of r.tables.chunks.items)) id (omega (arith, e.number))
     ∙ rw place (get_or-map (λ (x : Slot). x.turn) (slots_of r.tables.chunks.items) n s 0 e.within ∙ ap (λ (x : Slot). x.turn) (sym e.read))
+
+-- all that is kept of a number that has a cell
+pub kept-read : (r : Inside) (n id : ℕ) (s : Slot) → IsEntry r.tables.first (slots_of r.tables.chunks.items) n id s → (c : Cell) → s.state ≡ Used c
+    → IsKept (pool_of r) id (record { cell = c; turn = s.turn; hint = s.hint })
+kept-read r n id s e c used = record { cell = cell-read r n id s e ∙ ap cell_of used; turn = turn-read r n id s e; hint = hint-read r n id s e }
 
 pub leaf-read : (r : Inside) (n place : ℕ) (p : Place) → IsEntry r.tables.first (places_of r.tables.chunks.items) n place p → leaf_of (pool_of r) place ≡ p.leaf
 leaf-read r n place p e = entry-read (λ x. x.leaf) r.tables.first (places_of r.tables.chunks.items) n place p e.number e.within e.read

@@ -5,6 +5,7 @@ use Rattle.std.specs.List.{range_with_len}
 use Rattle.hg_base.specs.Edges.{IsIn}
 use Rattle.hg_base.specs.declared.graph.Room.{Room}
 use Rattle.node_region.specs.declared.cell.Cell.{Cell}
+use Rattle.node_region.specs.declared.cell.Entry.{Entry}
 use Rattle.node_region.specs.declared.cell.Hint.{Hint}
 
 pub record CellPool : Type 0 where
@@ -98,6 +99,12 @@ hint_of pool id = entry pool.first pool.hints id
 -- what is noted at a place of a cell further up
 abbrev pub finger_of : CellPool → ℕ → Option Hint
 finger_of pool place = entry pool.first pool.fingers place
+
+-- all that is kept of a number that has a cell
+pub record IsKept (pool : CellPool) (id : ℕ) (kept : Entry) : Type 0 where
+  pub cell : cell_at pool id ≡ Some kept.cell
+  pub turn : turn_of pool id ≡ kept.turn
+  pub hint : hint_of pool id ≡ kept.hint
 
 -- the cell that a hint means, if it still is there
 abbrev pub hinted_cell : CellPool → Hint → Option Cell

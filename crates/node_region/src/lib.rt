@@ -6,5 +6,5 @@ mod chunk;
 mod region;
 mod tables;
 
-pub use cell::{Cell, Hint};
+pub use cell::{Cell, Entry, Hint};
 pub use region::Region;

@@ -1,7 +1,7 @@
 ghost use Rattle.std.specs.Prelude.{◌≡◌, ◌≢◌, ℕ, ◌+◌, ◌<◌, ◌≤◌, ◌∷◌, [], length, Some, IfOk, IfSome, IfNone};
-ghost use Rattle.node_region.specs.Pool.{IsCovered, IsUsed, IsPool, IsNextTo, count, cell_at, leaf_of, turn_of, hint_of, finger_of, hinted_cell, fresh_pool, with_cell, with_taken, with_given_back, with_leaf, with_hint, with_finger, appended};
+ghost use Rattle.node_region.specs.Pool.{IsCovered, IsUsed, IsPool, IsNextTo, IsKept, count, cell_at, leaf_of, turn_of, hint_of, finger_of, hinted_cell, fresh_pool, with_cell, with_taken, with_given_back, with_leaf, with_hint, with_finger, appended};
 
-use crate::cell::{Cell, Hint};
+use crate::cell::{Cell, Entry, Hint};
 use crate::chunk::{FreeList, Place, Slot, State};
 use crate::tables::Tables;
 use hg_base::{OutOfMemory, Room};
@@ -136,6 +136,18 @@ impl Region {
         }
     }
 
+    /// All that is kept of a number that has a cell, read at once.
+    pub fn entry(&self, id: u32) -> Entry
+        requires { IsUsed self.now id }
+        ensures { IsKept self.now id result }
+    {
+        let Slot { state, turn, hint } = self.tables.slot(self.tables.locate(id));
+        match state {
+            State::Used(cell) => Entry { cell, turn, hint },
+            State::Free(_) => unreachable!(),
+        }
+    }
+
     /// Gives a number that has a cell this one in its place.
     pub fn set(&mut self, id: u32, cell: Cell)
         requires { IsUsed self.old id }
@@ -220,6 +232,26 @@ impl Region {
         let slot = self.tables.slot(self.tables.locate(hint.cell));
         match slot.state {
             State::Used(cell) if slot.turn == hint.turn => Some(cell),
+            _ => None,
+        }
+    }
+
+    /// All that is kept of the number that a hint names. None where the cell that it means isn't there.
+    pub fn find_entry(&self, hint: Hint) -> Option<Entry>
+        ensures found { IfSome result (λ entry. hinted_cell self.now hint ≡ Some entry.cell) }
+        ensures kept { IfSome result (IsKept self.now hint.cell) }
+        ensures none { IfNone result (hinted_cell self.now hint ≡ None) }
+    {
+        if !self.tables.covers(hint.cell) {
+            return None;
+        }
+        let slot = self.tables.slot(self.tables.locate(hint.cell));
+        match slot.state {
+            State::Used(cell) if slot.turn == hint.turn => Some(Entry {
+                cell,
+                turn: slot.turn,
+                hint: slot.hint,
+            }),
             _ => None,
         }
     }

@@ -148,6 +148,28 @@ both-roots t ds js c a b j la lb apart level flat common =
     let at_b : j ≡ b = above-root t b j (root-flat t ds js c b lb (sym level ∙ flat)) common.1 in
     apart (sym at_a ∙ at_b)
 
+-- the lesser of two nodes goes up where it can
+pub lesser-up : (t : ParentTree) → IsForest t → (a b p : ℕ) → a < nodes t → a < b → p ≡ parent t a → p ≢ a → GoesOn t a b p b
+lesser-up t f a b p la less is apart = record {
+  first = subst (λ (k : ℕ). IsAbove t k a) (sym is) (above-parent t a);
+  second = above-self t b;
+  up = (let r : a ≤ parent t a = f.rises a la in omega arith);
+  kept = λ j common. (on j common, common.1);
+}
+  where
+    on : (j : ℕ) → IsCommon t a b j → IsAbove t j p
+    on j common = elim (above-cases t a j common.0) [
+      | inl same ↦ absurd (let high : b ≤ j = above-le t (forest-rises t f) b j common.1 in omega arith)
+      | inr up ↦ subst (λ (k : ℕ). IsAbove t j k) (sym is) up
+    ]
+
+-- and no node is above both where it is a root
+pub lesser-root : (t : ParentTree) → IsForest t → (a b : ℕ) → a < b → parent t a ≡ a → (j : ℕ) → IsCommon t a b j → ⊥
+lesser-root t f a b less root j common =
+    let same : j ≡ a = above-root t a j root common.0 in
+    let high : b ≤ j = above-le t (forest-rises t f) b j common.1 in
+    omega arith
+
 -- what has gone on goes on
 pub goes-further : (t : ParentTree) (x y a b c d : ℕ) → ((j : ℕ) → IsCommon t x y j → IsCommon t a b j) → GoesOn t a b c d → (j : ℕ) → IsCommon t x y j → IsCommon t c d j
 goes-further t x y a b c d so_far g j common = g.kept j (so_far j common)

@@ -1,6 +1,6 @@
 -- The numbering of a part that took in the lots of all parts of a plan is the tree of the plan's edges.
 use Rattle.std.proofs.Common.{◌≡◌, ℕ, zero, suc, ◌+◌, ◌*◌, ◌<◌, ◌≤◌, sym, ◌∙◌, subst, ap, arith, List, ◌++◌, length, map}
-use Rattle.std.specs.Prelude.{Option, Some, replicate, slice_get, Result, Ok, Err, IfOk}
+use Rattle.std.specs.Prelude.{Option, Some, replicate, slice_get}
 use Rattle.std.specs.Option.{option_map_or}
 use Rattle.std.specs.List.{range_with_len}
 use Rattle.std.proofs.lemmas.List.FromFn.{length-map-range_with_len}
@@ -148,12 +148,6 @@ pub drawn-forest : (order : EdgeOrder) (plan : TilePlan) (part : PartState) → 
 drawn-forest order plan part w t is =
     subst IsForest (sym is) (tree-forest (vertices plan) plan.edges (positive plan.frame.width plan.frame.height w.is_plan.frame.width w.is_plan.frame.height) w.is_plan.frame.vertices (AreApart-rising plan.edges w.is_plan.rising) (within-edges plan w.is_plan))
 
--- a result that has the tree of the plan's edges has the tree of its fronts
-pub drawn-told : {E : Type 0} (r : Result ParentTree E) (plan : TilePlan) (t : ParentTree) → IfOk r (λ tree. tree ≡ t) → t ≡ tree_of (vertices plan) plan.edges → IfOk r (λ tree. tree ≡ tree_of (vertices plan) plan.edges)
-drawn-told {E} (Ok x) plan t h e = h ∙ e
-drawn-told {E} (Err x) plan t h e = tt
-
-pub fronts-told : {E : Type 0} (r : Result ParentTree E) (plan : TilePlan) (t : ParentTree) → IsPlan plan → IfOk r (λ tree. tree ≡ t) → t ≡ tree_of (vertices plan) plan.edges → IfOk r (λ tree. IsFrontTree tree (vertices plan) plan.edges)
-fronts-told {E} (Ok x) plan t is h e =
-    subst (λ (y : ParentTree). IsFrontTree y (vertices plan) plan.edges) (sym (h ∙ e)) (front-tree (vertices plan) plan.edges (AreApart-rising plan.edges is.rising) (within-edges plan is))
-fronts-told {E} (Err x) plan t is h e = tt
+-- the tree of the plan's edges is a front tree
+pub planned-fronts : (plan : TilePlan) → IsPlan plan → IsFrontTree (tree_of (vertices plan) plan.edges) (vertices plan) plan.edges
+planned-fronts plan is = front-tree (vertices plan) plan.edges (AreApart-rising plan.edges is.rising) (within-edges plan is)

@@ -5,7 +5,6 @@ pub mod Climbs
 pub mod Children
 pub mod Numbering
 pub mod Planned
-pub mod ForestFields
 pub mod TreeFields
 pub mod Report
 pub mod Turns

@@ -1,11 +1,12 @@
 //! Binary partition trees by altitude: made from a list of edges, read node by node, and written as a report.
 #![tactic(auto)]
 
+mod ancestors;
+mod child_lists;
 mod children;
 mod climbs;
 mod drawn;
 mod edges;
-mod forest;
 mod laws;
 mod list;
 mod numbering;
@@ -14,6 +15,8 @@ mod report;
 mod tree;
 mod turns;
 
+pub use ancestors::Ancestors;
+pub use children::Children;
 pub use laws::{tree_is_a_forest, tree_under_other_names};
 pub use list::Ranked;
 pub use report::{tree_pieces, write_tree};

@@ -6,7 +6,6 @@ ghost use Rattle.partition_tree.specs.Ranked.{IsRankedList, edge_at, edges_of};
 
 use crate::drawn::drawn;
 use crate::edges::Edges;
-use crate::forest::Forest;
 use crate::tree::Tree;
 use crate::turns::turns;
 use border_climb::Part;
@@ -102,6 +101,5 @@ fn numbered(alloc: Global, part: &Part, list: &[Ranked]) -> Result<Tree, AllocEr
     let n = part.count();
     let edges = Listed { n, list };
     let lists = drawn(alloc, &edges, part, list.len())?;
-    let forest = Forest::new(n, lists.parents, lists.altitudes, lists.makers);
-    Tree::over(alloc, forest)
+    Ok(Tree::new(n, lists.parents, lists.altitudes, lists.makers))
 }

@@ -10,7 +10,6 @@ ghost use Rattle.partition_tree.specs.Planned.{weight_at};
 
 use crate::drawn::drawn;
 use crate::edges::Edges;
-use crate::forest::Forest;
 use crate::tree::Tree;
 use border_climb::Part;
 use edge_order::Order;
@@ -90,6 +89,5 @@ fn numbered(alloc: Global, order: &Order, plan: &Plan, part: &Part) -> Result<Tr
     let n = plan.n();
     let edges = Planned { order, plan };
     let lists = drawn(alloc, &edges, part, order.len() as usize)?;
-    let forest = Forest::new(n, lists.parents, lists.altitudes, lists.makers);
-    Tree::over(alloc, forest)
+    Ok(Tree::new(n, lists.parents, lists.altitudes, lists.makers))
 }

@@ -4,7 +4,7 @@ ghost use Rattle.border_climb.specs.Stands.{Stands};
 ghost use Rattle.tile_plan.specs.Plan.{edges_at, end_place, first_place, room_places, room_tiles, root, tile_count};
 ghost use Rattle.partition_tree.specs.Ranked.{IsRankedList};
 
-use super::{Ranked, Tree, tree_pieces, write_tree};
+use super::{Ancestors, Children, Ranked, Tree, tree_pieces, write_tree};
 use border_climb::{Part, build_tile, join};
 use edge_order::Order;
 use hg_base::{Edge, Graph, OutOfMemory};
@@ -151,34 +151,50 @@ fn readers(rt: HostRuntime) -> Result<(), Fail> {
     Ok(())
 }
 
-fn assert_children(rt: &impl Abort, tree: &Tree, node: u32, children: &[u32]) {
+fn assert_children(rt: &impl Abort, tree: &Tree, listed: &Children, node: u32, children: &[u32])
+    requires { listed.now ≡ tree.now }
+{
     assert!(rt; node < tree.nodes());
     assert_eq!(rt; tree.child_count(node) as usize, children.len());
+    assert_eq!(rt; listed.count(node) as usize, children.len());
     for (k, child) in children.iter().enumerate() {
         assert!(rt; (k as u32) < tree.child_count(node));
         assert_eq!(rt; tree.child(node, k as u32), *child);
+        assert_eq!(rt; listed.child(node, k as u32), *child);
     }
 }
 
 #[test]
 fn children(rt: HostRuntime) -> Result<(), Fail> {
     let tree = Tree::of_list(rt.alloc(), 6, &PATHS)?;
-    assert_children(&rt, &tree, 0, &[]);
-    assert_children(&rt, &tree, 6, &[0, 1]);
-    assert_children(&rt, &tree, 8, &[4, 6]);
-    assert_children(&rt, &tree, 9, &[5, 7]);
-    assert_children(&rt, &tree, 10, &[8, 9]);
+    let listed = Children::of(rt.alloc(), &tree)?;
+    assert_children(&rt, &tree, &listed, 0, &[]);
+    assert_children(&rt, &tree, &listed, 6, &[0, 1]);
+    assert_children(&rt, &tree, &listed, 8, &[4, 6]);
+    assert_children(&rt, &tree, &listed, 9, &[5, 7]);
+    assert_children(&rt, &tree, &listed, 10, &[8, 9]);
     Ok(())
 }
 
-fn assert_lowest(rt: &impl Abort, tree: &Tree, a: u32, b: u32, lowest: Option<u32>) {
+fn assert_lowest(
+    rt: &impl Abort,
+    tree: &Tree,
+    ancestors: &Ancestors,
+    a: u32,
+    b: u32,
+    lowest: Option<u32>,
+)
+    requires { ancestors.now ≡ tree.now }
+{
     assert!(rt; a < tree.nodes() && b < tree.nodes());
     assert_eq!(rt; tree.lca(a, b), lowest, "of {a} and {b}");
+    assert_eq!(rt; ancestors.lca(a, b), lowest, "of {a} and {b}");
 }
 
 #[test]
 fn lowest_common_ancestors(rt: HostRuntime) -> Result<(), Fail> {
     let tree = Tree::of_list(rt.alloc(), 6, &PATHS)?;
+    let ancestors = Ancestors::of(rt.alloc(), &tree)?;
     for (a, b, lowest) in [
         (0, 0, 0),
         (0, 1, 6),
@@ -189,13 +205,14 @@ fn lowest_common_ancestors(rt: HostRuntime) -> Result<(), Fail> {
         (6, 0, 6),
         (10, 3, 10),
     ] {
-        assert_lowest(&rt, &tree, a, b, Some(lowest));
-        assert_lowest(&rt, &tree, b, a, Some(lowest));
+        assert_lowest(&rt, &tree, &ancestors, a, b, Some(lowest));
+        assert_lowest(&rt, &tree, &ancestors, b, a, Some(lowest));
     }
     let apart = Tree::of_list(rt.alloc(), 3, &APART)?;
-    assert_lowest(&rt, &apart, 0, 1, Some(3));
-    assert_lowest(&rt, &apart, 0, 2, None);
-    assert_lowest(&rt, &apart, 2, 3, None);
+    let apart_ancestors = Ancestors::of(rt.alloc(), &apart)?;
+    assert_lowest(&rt, &apart, &apart_ancestors, 0, 1, Some(3));
+    assert_lowest(&rt, &apart, &apart_ancestors, 0, 2, None);
+    assert_lowest(&rt, &apart, &apart_ancestors, 2, 3, None);
     Ok(())
 }
 

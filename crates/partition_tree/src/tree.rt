@@ -1,15 +1,13 @@
-ghost use Rattle.std.specs.Prelude.{◌≡◌, ◌≢◌, ℕ, ◌-◌, ◌<◌, ◌≤◌, slice_get, Some, IfOk, MatchOption, IfSome};
+ghost use Rattle.std.specs.Prelude.{◌≡◌, ◌≢◌, ℕ, ◌-◌, ◌<◌, ◌≤◌, slice_get, Some, IfOk, MatchOption, IfSome, IsTrue};
 ghost use Rattle.hg_base.specs.Tree.{parent, altitude};
 ghost use Rattle.hg_base.specs.Saliency.{IsLowestAbove};
 ghost use Rattle.partition_tree.specs.Forest.{nodes, roots, lists_of, IsForest};
-ghost use Rattle.partition_tree.specs.Paths.{ShareRoot};
-ghost use Rattle.partition_tree.specs.Children.{child_count, IsChildAt};
+ghost use Rattle.partition_tree.specs.Paths.{IsCommon, ShareRoot};
+ghost use Rattle.partition_tree.specs.Climbs.{GoesOn};
+ghost use Rattle.partition_tree.specs.Children.{is_child, child_count, IsChildAt};
 
-use crate::children::Children;
-use crate::climbs::Climbs;
-use crate::forest::Forest;
 use hg_base::OutOfMemory;
-use std::alloc::{AllocError, Global};
+use std::alloc::Global;
 use std::marker::Model;
 
 /// A forest over the vertices of a graph. Its leaves are the nodes 0 to leaves - 1, and a root is its own parent.
@@ -17,9 +15,10 @@ use std::marker::Model;
 /// Trees as parent lists: Perret and others, Higra, 2019.
 #[derive(Drop)]
 pub struct Tree {
-    forest: Forest,
-    climbs: Climbs,
-    children: Children,
+    leaves: u32,
+    parents: Vec<u32>,
+    altitudes: Vec<u64>,
+    makers: Vec<u32>,
 }
 
 impl Model for Tree {
@@ -27,11 +26,12 @@ impl Model for Tree {
 
     ghost Value = { ParentTree };
 
-    ghost use Rattle.partition_tree.specs.TreeFields.{tree_of_fields, IsKept};
+    ghost use Rattle.partition_tree.specs.TreeFields.{tree_of_fields};
+    ghost use Rattle.partition_tree.specs.Forest.{IsForest};
 
     ghost view = { tree_of_fields };
 
-    ghost invariant = { IsKept };
+    ghost invariant = { λ t. IsForest (tree_of_fields t) };
 }
 
 impl Tree {
@@ -47,21 +47,21 @@ impl Tree {
         requires { IsForest (lists_of leaves parents.items altitudes.items makers.items) }
         ensures { IfOk result (λ tree. tree ≡ lists_of leaves parents.items altitudes.items makers.items) }
     {
-        let forest = Forest::new(leaves, parents, altitudes, makers);
-        Tree::over(alloc, forest).map_err(|_| OutOfMemory)
+        let _ = alloc;
+        Ok(Tree::new(leaves, parents, altitudes, makers))
     }
 
-    // The tree with the lists of a forest.
-    pub(crate) fn over(alloc: Global, forest: Forest) -> Result<Tree, AllocError>
-        ensures { IfOk result (λ tree. tree ≡ forest) }
+    // The tree with these lists.
+    pub(crate) fn new(leaves: u32, parents: Vec<u32>, altitudes: Vec<u64>, makers: Vec<u32>) -> Tree
+        requires { IsForest (lists_of leaves parents.items altitudes.items makers.items) }
+        ensures { result ≡ lists_of leaves parents.items altitudes.items makers.items }
     {
-        let climbs = Climbs::of(alloc, &forest)?;
-        let children = Children::of(alloc, &forest)?;
-        Ok(Tree {
-            forest,
-            climbs,
-            children,
-        })
+        Tree {
+            leaves,
+            parents,
+            altitudes,
+            makers,
+        }
     }
 
     /// How many nodes the tree has.
@@ -71,7 +71,7 @@ impl Tree {
         ensures some_node { 1 ≤ result }
         ensures few_nodes { result ≤ 2097151 }
     {
-        self.forest.nodes()
+        self.parents.len() as u32
     }
 
     /// How many leaves the tree has.
@@ -81,7 +81,7 @@ impl Tree {
         ensures leaves { result ≤ 1048576 }
         ensures within { result ≤ nodes self.now }
     {
-        self.forest.leaves()
+        self.leaves
     }
 
     /// How many nodes are their own parents.
@@ -105,7 +105,7 @@ impl Tree {
         ensures within { result < nodes self.now }
         ensures inner { result ≢ i → self.now.leaves ≤ result }
     {
-        self.forest.parent(i)
+        self.parents[i as usize]
     }
 
     /// The altitude of a node.
@@ -114,7 +114,7 @@ impl Tree {
         ensures value { result ≡ altitude self.now i }
         ensures leaf { i < self.now.leaves → result ≡ 0 }
     {
-        self.forest.altitude(i)
+        self.altitudes[i as usize]
     }
 
     /// The number of the edge that made an inner node.
@@ -123,28 +123,54 @@ impl Tree {
         requires within { i < nodes self.now }
         ensures { slice_get self.now.makers (i - self.now.leaves) ≡ Some result }
     {
-        self.forest.maker(i)
+        self.makers[(i - self.leaves) as usize]
     }
 
-    /// How many children a node has.
+    /// How many children a node has. It goes over all nodes: [`Children`](crate::Children) is for who asks for many.
     pub fn child_count(&self, i: u32) -> u32
         requires { i < nodes self.now }
         ensures { result ≡ child_count self.now i }
     {
-        self.children.count(&self.forest, i)
+        let mut count = 0;
+        for j in 0..self.nodes() {
+            if self.is_child(i, j) {
+                count += 1;
+            }
+        }
+        count
     }
 
-    /// The child of node i before which k others come, in rising order of number.
+    /// The child of node i before which k others come, in rising order of number. It goes over the nodes up to it.
     pub fn child(&self, i: u32, k: u32) -> u32
         requires within { i < nodes self.now }
         requires place { k < child_count self.now i }
         ensures { IsChildAt self.now i k result }
     {
-        self.children.at(&self.forest, i, k)
+        let mut before = 0;
+        for j in 0..self.nodes() {
+            if self.is_child(i, j) {
+                if before == k {
+                    return j;
+                }
+                before += 1;
+            }
+        }
+        unreachable!()
+    }
+
+    // Whether node j is a child of node i.
+    fn is_child(&self, i: u32, j: u32) -> bool
+        requires { j < nodes self.now }
+        ensures child { result ≡ is_child self.now i j }
+        ensures less { IsTrue result → j < i }
+    {
+        let parent = self.parent(j);
+        parent == i && parent != j
     }
 
     /// The lowest common ancestor: the node of least number that is above both a and b, a node being above itself.
-    /// None exactly where a and b have different roots.
+    /// None exactly where a and b have different roots. It goes up link by link: [`Ancestors`](crate::Ancestors) is
+    /// for who asks for many.
     pub fn lca(&self, a: u32, b: u32) -> Option<u32>
         requires a { a < nodes self.now }
         requires b { b < nodes self.now }
@@ -152,6 +178,50 @@ impl Tree {
         ensures roots { MatchOption result (¬ ShareRoot self.now a b) (λ i. ShareRoot self.now a b) }
         ensures within { IfSome result (λ i. i < nodes self.now) }
     {
-        self.climbs.lca(&self.forest, a, b)
+        self.met(a, b)
+    }
+
+    // The lowest node above both a and b, or None where there is none.
+    fn met(&self, mut a: u32, mut b: u32) -> Option<u32>
+        requires a { a < nodes self.now }
+        requires b { b < nodes self.now }
+        ensures lowest { MatchOption result ((j : ℕ) → ¬ IsCommon self.now a b j) (λ i. IsLowestAbove self.now a b i) }
+        ensures within { IfSome result (λ i. i < nodes self.now) }
+        ensures forest { IsForest self.now }
+    {
+        let _ = self.nodes();
+        while a != b {
+            (a, b) = self.next(a, b)?;
+        }
+        Some(a)
+    }
+
+    // From two different nodes, the next two to go on from: the lesser goes up. None where no node is above both.
+    fn next(&self, a: u32, b: u32) -> Option<(u32, u32)>
+        requires a { a < nodes self.now }
+        requires b { b < nodes self.now }
+        requires apart { a ≢ b }
+        ensures within { IfSome result (λ next. (next.0 < nodes self.now) × (next.1 < nodes self.now)) }
+        ensures next { MatchOption result ((j : ℕ) → ¬ IsCommon self.now a b j) (λ next. GoesOn self.now a b next.0 next.1) }
+    {
+        if a < b {
+            Some((self.raised(a, b)?, b))
+        } else {
+            Some((a, self.raised(b, a)?))
+        }
+    }
+
+    // The parent of a node that isn't above a greater one. None where it is a root, so that no node is above both.
+    fn raised(&self, least: u32, other: u32) -> Option<u32>
+        requires within { least < nodes self.now }
+        requires other { other < nodes self.now }
+        requires less { least < other }
+        ensures within { IfSome result (λ next. next < nodes self.now) }
+        ensures next { MatchOption result ((j : ℕ) → ¬ IsCommon self.now least other j) (λ next. GoesOn self.now least other next other) }
+    {
+        let _ = other;
+        let _ = self.nodes();
+        let parent = self.parent(least);
+        if parent == least { None } else { Some(parent) }
     }
 }

@@ -1,16 +1,17 @@
 -- The links of a picture, and its graph.
-use Rattle.std.proofs.Common.{◌≡◌, ◌≢◌, ℕ, zero, suc, ◌+◌, ◌*◌, ◌/◌, ◌%◌, ◌<◌, ◌≤◌, Bool, true, false, List, [], ◌∷◌, ◌++◌, length, All, inl, inr, refl, sym, ap, ◌∙◌, subst, arith, append_assoc, append-nil, add-zero, length-append}
+use Rattle.std.proofs.Common.{◌≡◌, ◌≢◌, ℕ, zero, suc, ◌+◌, ◌*◌, ◌/◌, ◌%◌, ◌<◌, ◌≤◌, Bool, true, false, List, [], ◌∷◌, ◌++◌, length, get_or, map, All, inl, inr, refl, sym, ap, ◌∙◌, subst, arith, append_assoc, append-nil, add-zero, length-append}
 use Rattle.std.proofs.lemmas.Bool.{cases_Bool}
 use Rattle.std.specs.Prelude.{nat_lt, if◌then◌else◌}
 use Rattle.std.specs.List.{flat_map, range_with_len}
 use Rattle.std.proofs.lemmas.List.Concat.{flat_map-append}
 use Rattle.std.proofs.lemmas.List.Elements.{All-nil, All-append, All-push, All-map, All-replicate}
-use Rattle.std.proofs.lemmas.List.{length-replicate, length-map}
+use Rattle.std.proofs.lemmas.List.{get_or-map, length-replicate, length-map}
 use Rattle.std.proofs.lemmas.Nat.{div-add-mod', div_below}
 use Rattle.std.proofs.Math.Nat.{mul_comm, mul-le-mul_right, suc-mul, mod-lt}
 use Rattle.hg_base.specs.Graph.{IsGraph, JoinsTwo}
+use Rattle.hg_base.specs.declared.graph.Edge.{Edge}
 use Rattle.pgm_reader.specs.Raster.{Raster, IsRaster}
-use Rattle.pgm_reader.specs.Grid.{Link, right_of, below_of, links, edge_between, graph_of}
+use Rattle.pgm_reader.specs.Grid.{Link, link_of, right_of, below_of, links, edge_between, graph_of}
 
 range_more_from : (n a : ℕ) → range_with_len a (suc n) ≡ range_with_len a n ++ (a + n) ∷ []
 range_more_from zero a = rw add-zero refl
@@ -121,3 +122,22 @@ is-graph r is = record {
   edges = omega (arith, length-map (links r.width r.height) (edge_between r.samples), links-few r.width r.height, is.pixels);
   ends = All-map (JoinsTwo (r.width * r.height)) (edge_between r.samples) (links r.width r.height) (λ k d l. let two = links-two r.width r.height is.some_width k d l in record { u = two.first; v = two.second; apart = two.apart });
 }
+
+-- a list whose elements are f of those of another
+pub map_by_all : {X : Type 0} (f : X → X) (xs ys : List X) → length ys ≡ length xs → ((k : ℕ) (d : X) → k < length xs → get_or ys k d ≡ f (get_or xs k d)) → ys ≡ map f xs
+map_by_all f [] [] long at = refl
+map_by_all f [] (y ∷ ys) long at = absurd (omega arith)
+map_by_all f (x ∷ xs) [] long at = absurd (omega arith)
+map_by_all {X} f (x ∷ xs) (y ∷ ys) long at =
+    let head : y ≡ f x = at 0 x (omega arith) in
+    let rest = map_by_all f xs ys (omega arith) (λ k d l. at (suc k) d (omega arith)) in
+    ap (λ (z : X). z ∷ ys) head ∙ ap (λ (zs : List X). f x ∷ zs) rest
+
+-- the pixels of an edge whose link is one of the picture's
+pub ends_at : (w h i : ℕ) (e : Edge) (xs : List Edge) → 1 ≤ w → map link_of xs ≡ links w h → i < length xs → e ≡ get_or xs i e → (e.u < w * h) × (e.v < w * h)
+ends_at w h i e xs some all l is =
+    let long : length xs ≡ length (links w h) = sym (length-map xs link_of) ∙ ap length all in
+    let at : get_or (links w h) i (link_of e) ≡ link_of e =
+    ap (λ (ls : List Link). get_or ls i (link_of e)) (sym all) ∙ get_or-map link_of xs i e (link_of e) l ∙ ap link_of (sym is) in
+    let two = rw at at (links-two w h some i (link_of e) (omega (arith, l, long))) in
+    (two.first, two.second)

@@ -30,6 +30,10 @@ grey samples i = unwrap_or (slice_get samples i) 0
 abbrev pub edge_between : List ℕ → Link → Edge
 edge_between samples link = record { u = link.0; v = link.1; w = abs_diff (grey samples link.0) (grey samples link.1) }
 
+-- the two pixels of an edge
+abbrev pub link_of : Edge → Link
+link_of e = (e.u, e.v)
+
 -- the graph of a picture, in which each pixel is joined to those beside it
 abbrev pub graph_of : Raster → WeightedGraph
 graph_of r = with_unit_areas (r.width * r.height) (map (edge_between r.samples) (links r.width r.height))

@@ -1,5 +1,5 @@
 ghost use Rattle.std.specs.Prelude.{◌≡◌, ◌*◌, ◌<◌, ◌≤◌, ◌++◌, map, IfOk, OnOk};
-ghost use Rattle.pgm_reader.specs.Grid.{right_of, below_of, links, edge_between, graph_of};
+ghost use Rattle.pgm_reader.specs.Grid.{right_of, below_of, link_of, links, edge_between, graph_of};
 
 use crate::picture::Picture;
 use hg_base::{Edge, Graph, OutOfMemory};
@@ -7,53 +7,74 @@ use rayon::prelude::*;
 use std::alloc::{AllocError, Global};
 use std::thread::Threads;
 
-// Puts the pair of a pixel and its neighbour to the right at the end, if there is one.
-fn push_right(links: &mut Vec<(u32, u32)>, width: u32, pixel: u32) -> Result<(), AllocError>
+// Puts the edge between a pixel and its neighbour to the right at the end, without its weight, if there is one.
+fn push_right(edges: &mut Vec<Edge>, width: u32, pixel: u32) -> Result<(), AllocError>
     requires some_width { 1 ≤ width }
     requires few { pixel < 1048576 }
-    ensures { OnOk result (links.new.items ≡ links.old.items ++ right_of width pixel) }
+    ensures { OnOk result (map link_of edges.new.items ≡ map link_of edges.old.items ++ right_of width pixel) }
 {
     if pixel % width + 1 < width {
-        links.push((pixel, pixel + 1))?;
+        edges.push(between(pixel, pixel + 1))?;
     }
     Ok(())
 }
 
-// Puts the pair of a pixel and its neighbour below at the end, if there is one.
-fn push_below(
-    links: &mut Vec<(u32, u32)>,
-    width: u32,
-    height: u32,
-    pixel: u32,
-) -> Result<(), AllocError>
+// Puts the edge between a pixel and its neighbour below at the end, without its weight, if there is one.
+fn push_below(edges: &mut Vec<Edge>, width: u32, height: u32, pixel: u32) -> Result<(), AllocError>
     requires some_width { 1 ≤ width }
     requires narrow { width ≤ 1048576 }
     requires few { pixel < 1048576 }
-    ensures { OnOk result (links.new.items ≡ links.old.items ++ below_of width height pixel) }
+    ensures { OnOk result (map link_of edges.new.items ≡ map link_of edges.old.items ++ below_of width height pixel) }
 {
     if pixel / width + 1 < height {
-        links.push((pixel, pixel + width))?;
+        edges.push(between(pixel, pixel + width))?;
     }
     Ok(())
 }
 
-/// The pairs of neighbours of a picture, in raster order: to the right before below.
-fn links(alloc: Global, width: u32, height: u32) -> Result<Vec<(u32, u32)>, AllocError>
+// The edge between two pixels, whose weight isn't known yet.
+fn between(u: u32, v: u32) -> Edge
+    ensures { link_of result ≡ (u, v) }
+{
+    Edge { u, v, w: 0 }
+}
+
+// The edges between neighbours of a picture, in raster order: to the right before below. Their weights aren't known yet.
+fn links(alloc: Global, width: u32, height: u32) -> Result<Vec<Edge>, AllocError>
     requires some_width { 1 ≤ width }
     requires some_height { 1 ≤ height }
     requires pixels { width * height ≤ 1048576 }
-    ensures { IfOk result (λ v. v.items ≡ links width height) }
+    ensures { IfOk result (λ v. map link_of v.items ≡ links width height) }
 {
     let pixels = width * height;
-    let mut links = Vec::with_capacity(alloc, (2 * pixels - width - height) as usize)?;
+    let mut edges = Vec::with_capacity(alloc, (2 * pixels - width - height) as usize)?;
     for pixel in 0..pixels {
-        push_right(&mut links, width, pixel)?;
-        push_below(&mut links, width, height, pixel)?;
+        push_right(&mut edges, width, pixel)?;
+        push_below(&mut edges, width, height, pixel)?;
     }
-    Ok(links)
+    Ok(edges)
 }
 
-/// The edges of a picture's graph, weighed by as many threads as can be had.
+// Gives each edge its weight, in as many threads as can be had.
+fn weigh(rt: &(impl Threads + Sync), picture: &Picture, edges: &mut [Edge])
+    requires some_width { 1 ≤ picture.now.width }
+    requires links { map link_of edges.old ≡ links picture.now.width picture.now.height }
+    ensures { edges.new ≡ map (edge_between picture.now.samples) (links picture.now.width picture.now.height) }
+{
+    par_for_each_mut(
+        rt,
+        edges,
+        |_place: usize, edge: &mut Edge|
+            requires { (edge.old.u < picture.now.width * picture.now.height) × (edge.old.v < picture.now.width * picture.now.height) }
+            ensures { edge.new ≡ edge_between picture.entry.now.samples (link_of edge.old) }
+        {
+            let w = u32::from(picture.sample(edge.u).abs_diff(picture.sample(edge.v)));
+            edge.w = w;
+        },
+    );
+}
+
+/// The edges of a picture's graph.
 fn edges(
     rt: &(impl Threads + Sync),
     alloc: Global,
@@ -61,20 +82,9 @@ fn edges(
 ) -> Result<Vec<Edge>, AllocError>
     ensures { IfOk result (λ v. v.items ≡ map (edge_between picture.now.samples) (links picture.now.width picture.now.height)) }
 {
-    let links = links(alloc, picture.width(), picture.height())?;
-    links
-        .par_iter()
-        .map(
-            |link: &(u32, u32)| -> Edge
-                requires { (link.now.0 < picture.now.width * picture.now.height) × (link.now.1 < picture.now.width * picture.now.height) }
-                ensures { result ≡ edge_between picture.entry.now.samples link.now }
-            {
-                let (u, v) = *link;
-                let w = u32::from(picture.sample(u).abs_diff(picture.sample(v)));
-                Edge { u, v, w }
-            },
-        )
-        .collect(rt, alloc)
+    let mut edges = links(alloc, picture.width(), picture.height())?;
+    weigh(rt, picture, &mut edges);
+    Ok(edges)
 }
 
 fn graph(rt: &(impl Threads + Sync), alloc: Global, picture: &Picture) -> Result<Graph, AllocError>

@@ -1,9 +1,9 @@
 ghost use Rattle.std.specs.Prelude.{◌≡◌, IfOk};
 ghost use Rattle.hg_base.specs.Zones.{zones_of};
 ghost use Rattle.partition_tree.specs.Forest.{lists_of, IsForest};
-ghost use Rattle.quasi_flat_zones.specs.Passes.{AreNearest};
+ghost use Rattle.quasi_flat_zones.specs.Passes.{AreMarked, AreNearest};
 
-use crate::numbers::{keeps, nearest_numbers};
+use crate::numbers::{keeps, kept_nodes, nearest_numbers};
 use hg_base::OutOfMemory;
 use partition_tree::Tree;
 use std::alloc::{AllocError, Global};
@@ -28,22 +28,29 @@ fn lists(alloc: Global, tree: &Tree) -> Result<ZoneLists, AllocError>
     ensures forest { IfOk result (λ lists. IsForest tree.now) }
     ensures lists { IfOk result (λ lists. lists_of tree.now.leaves lists.parents.items lists.altitudes.items lists.makers.items ≡ zones_of tree.now) }
 {
-    let numbers = nearest_numbers(alloc, tree)?;
+    let marks = kept_nodes(alloc, tree)?;
+    let numbers = nearest_numbers(alloc, tree, &marks)?;
     Ok(ZoneLists {
-        parents: parents(alloc, tree, &numbers)?,
-        altitudes: altitudes(alloc, tree)?,
-        makers: makers(alloc, tree)?,
+        parents: parents(alloc, tree, &marks, &numbers)?,
+        altitudes: altitudes(alloc, tree, &marks)?,
+        makers: makers(alloc, tree, &marks)?,
     })
 }
 
 // The parents of the kept nodes, by new numbers.
-fn parents(alloc: Global, tree: &Tree, numbers: &[u32]) -> Result<Vec<u32>, AllocError>
-    requires { AreNearest tree.now numbers.now }
+fn parents(
+    alloc: Global,
+    tree: &Tree,
+    marks: &[bool],
+    numbers: &[u32],
+) -> Result<Vec<u32>, AllocError>
+    requires marks { AreMarked tree.now marks.now }
+    requires nearest { AreNearest tree.now numbers.now }
     ensures { IfOk result (λ parents. parents.items ≡ (zones_of tree.now).parents) }
 {
     let mut parents = Vec::with_capacity(alloc, numbers.len())?;
     for i in 0..tree.nodes() {
-        if keeps(tree, i) {
+        if keeps(tree, marks, i) {
             parents.push(numbers[tree.parent(i) as usize])?;
         }
     }
@@ -51,12 +58,13 @@ fn parents(alloc: Global, tree: &Tree, numbers: &[u32]) -> Result<Vec<u32>, Allo
 }
 
 // The altitudes of the kept nodes.
-fn altitudes(alloc: Global, tree: &Tree) -> Result<Vec<u64>, AllocError>
+fn altitudes(alloc: Global, tree: &Tree, marks: &[bool]) -> Result<Vec<u64>, AllocError>
+    requires { AreMarked tree.now marks.now }
     ensures { IfOk result (λ altitudes. altitudes.items ≡ (zones_of tree.now).altitudes) }
 {
     let mut altitudes = Vec::with_capacity(alloc, tree.nodes() as usize)?;
     for i in 0..tree.nodes() {
-        if keeps(tree, i) {
+        if keeps(tree, marks, i) {
             altitudes.push(tree.altitude(i))?;
         }
     }
@@ -64,13 +72,14 @@ fn altitudes(alloc: Global, tree: &Tree) -> Result<Vec<u64>, AllocError>
 }
 
 // The makers of the kept inner nodes.
-fn makers(alloc: Global, tree: &Tree) -> Result<Vec<u32>, AllocError>
+fn makers(alloc: Global, tree: &Tree, marks: &[bool]) -> Result<Vec<u32>, AllocError>
+    requires { AreMarked tree.now marks.now }
     ensures { IfOk result (λ makers. makers.items ≡ (zones_of tree.now).makers) }
 {
     let inner = tree.nodes() - tree.leaves();
     let mut makers = Vec::with_capacity(alloc, inner as usize)?;
     for i in tree.leaves()..tree.nodes() {
-        if keeps(tree, i) {
+        if keeps(tree, marks, i) {
             makers.push(tree.maker(i))?;
         }
     }

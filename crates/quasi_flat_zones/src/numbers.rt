@@ -1,13 +1,25 @@
 ghost use Rattle.std.specs.Prelude.{◌≡◌, ◌<◌, IfOk};
 ghost use Rattle.hg_base.specs.Zones.{keeps};
 ghost use Rattle.partition_tree.specs.Forest.{nodes, IsForest};
-ghost use Rattle.quasi_flat_zones.specs.Passes.{zone_numbers, AreNearest};
+ghost use Rattle.quasi_flat_zones.specs.Passes.{zone_numbers, AreMarked, AreNearest};
 
 use partition_tree::Tree;
 use std::alloc::{AllocError, Global};
 
-/// Whether the zones keep node i: a leaf, a root, or a node of another altitude than its parent.
-pub(crate) fn keeps(tree: &Tree, i: u32) -> bool
+/// Which nodes the zones keep.
+pub(crate) fn kept_nodes(alloc: Global, tree: &Tree) -> Result<Vec<bool>, AllocError>
+    ensures { IfOk result (λ marks. AreMarked tree.now marks.items) }
+{
+    let nodes = tree.nodes();
+    let mut marks = Vec::with_capacity(alloc, nodes as usize)?;
+    for i in 0..nodes {
+        marks.push(is_kept(tree, i))?;
+    }
+    Ok(marks)
+}
+
+// Whether the zones keep node i: a leaf, a root, or a node of another altitude than its parent.
+fn is_kept(tree: &Tree, i: u32) -> bool
     requires { i < nodes tree.now }
     ensures { result ≡ keeps tree.now i }
 {
@@ -15,18 +27,34 @@ pub(crate) fn keeps(tree: &Tree, i: u32) -> bool
     i < tree.leaves() || parent == i || tree.altitude(i) != tree.altitude(parent)
 }
 
+/// Whether the zones keep node i, as it was marked.
+pub(crate) fn keeps(tree: &Tree, marks: &[bool], i: u32) -> bool
+    requires marks { AreMarked tree.now marks.now }
+    requires within { i < nodes tree.now }
+    ensures { result ≡ keeps tree.now i }
+{
+    let _ = tree;
+    marks[i as usize]
+}
+
 /// For each node the new number of the nearest kept node at or above it.
-pub(crate) fn nearest_numbers(alloc: Global, tree: &Tree) -> Result<Vec<u32>, AllocError>
+pub(crate) fn nearest_numbers(
+    alloc: Global,
+    tree: &Tree,
+    marks: &[bool],
+) -> Result<Vec<u32>, AllocError>
+    requires { AreMarked tree.now marks.now }
     ensures forest { IfOk result (λ numbers. IsForest tree.now) }
     ensures nearest { IfOk result (λ numbers. AreNearest tree.now numbers.items) }
 {
-    let mut numbers = zone_numbers(alloc, tree)?;
-    send_down(tree, &mut numbers);
+    let mut numbers = zone_numbers(alloc, tree, marks)?;
+    send_down(tree, marks, &mut numbers);
     Ok(numbers)
 }
 
 // For each node how many kept ones have a lesser number.
-fn zone_numbers(alloc: Global, tree: &Tree) -> Result<Vec<u32>, AllocError>
+fn zone_numbers(alloc: Global, tree: &Tree, marks: &[bool]) -> Result<Vec<u32>, AllocError>
+    requires { AreMarked tree.now marks.now }
     ensures forest { IfOk result (λ numbers. IsForest tree.now) }
     ensures numbers { IfOk result (λ numbers. numbers.items ≡ zone_numbers tree.now) }
 {
@@ -35,7 +63,7 @@ fn zone_numbers(alloc: Global, tree: &Tree) -> Result<Vec<u32>, AllocError>
     let mut kept = 0;
     for i in 0..nodes {
         numbers.push(kept)?;
-        if keeps(tree, i) {
+        if keeps(tree, marks, i) {
             kept += 1;
         }
     }
@@ -43,12 +71,13 @@ fn zone_numbers(alloc: Global, tree: &Tree) -> Result<Vec<u32>, AllocError>
 }
 
 // Gives each node that isn't kept its parent's number, from the root down.
-fn send_down(tree: &Tree, numbers: &mut [u32])
-    requires { numbers.old ≡ zone_numbers tree.now }
+fn send_down(tree: &Tree, marks: &[bool], numbers: &mut [u32])
+    requires marks { AreMarked tree.now marks.now }
+    requires own { numbers.old ≡ zone_numbers tree.now }
     ensures { AreNearest tree.now numbers.new }
 {
     for i in (0..tree.nodes()).rev() {
-        if !keeps(tree, i) {
+        if !keeps(tree, marks, i) {
             numbers[i as usize] = numbers[tree.parent(i) as usize];
         }
     }

@@ -37,7 +37,7 @@ impl LineWriter {
     }
 
     /// Takes room for so many more bytes. The text stays.
-    pub fn reserve(&mut self, room: usize) -> Result<(), AllocError>
+    pub(crate) fn reserve(&mut self, room: usize) -> Result<(), AllocError>
         ensures { self.new ≡ self.old }
     {
         self.text.reserve(room)

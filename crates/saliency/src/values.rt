@@ -5,7 +5,7 @@ ghost use Rattle.hg_base.specs.Saliencies.{saliency, saliencies};
 ghost use Rattle.saliency.specs.Values.{IsLowestAltitude, EndsShareRoots, AreLowestAltitudes, AreSaliencies};
 
 use hg_base::{Graph, OutOfMemory};
-use partition_tree::Tree;
+use partition_tree::{Ancestors, Tree};
 use std::alloc::{AllocError, Global};
 
 /// The saliency of each edge for a tree, by edge number: the altitude of the lowest common ancestor of its ends
@@ -18,10 +18,17 @@ pub fn saliency(alloc: Global, graph: &Graph, tree: &Tree) -> Result<Vec<u64>, O
     ensures least { tree.now ≡ graph_tree graph.now → IfOk result (λ values. AreSaliencies graph.now values.items) }
     ensures saliencies { tree.now ≡ graph_tree graph.now → IfOk result (λ values. values.items ≡ saliencies graph.now) }
 {
-    values(alloc, graph, tree).map_err(|_| OutOfMemory)
+    let ancestors = Ancestors::of(alloc, tree)?;
+    values(alloc, graph, tree, &ancestors).map_err(|_| OutOfMemory)
 }
 
-fn values(alloc: Global, graph: &Graph, tree: &Tree) -> Result<Vec<u64>, AllocError>
+fn values(
+    alloc: Global,
+    graph: &Graph,
+    tree: &Tree,
+    ancestors: &Ancestors,
+) -> Result<Vec<u64>, AllocError>
+    requires ancestors { ancestors.now ≡ tree.now }
     requires leaves { tree.now.leaves ≡ graph.now.n }
     requires roots { EndsShareRoots graph.now tree.now }
     ensures lowest { IfOk result (λ values. AreLowestAltitudes graph.now tree.now values.items) }
@@ -30,13 +37,14 @@ fn values(alloc: Global, graph: &Graph, tree: &Tree) -> Result<Vec<u64>, AllocEr
 {
     let mut values = Vec::with_capacity(alloc, graph.m() as usize)?;
     for e in 0..graph.m() {
-        values.push(value(graph, tree, e))?;
+        values.push(value(graph, tree, ancestors, e))?;
     }
     Ok(values)
 }
 
 // The saliency of edge e.
-fn value(graph: &Graph, tree: &Tree, e: u32) -> u64
+fn value(graph: &Graph, tree: &Tree, ancestors: &Ancestors, e: u32) -> u64
+    requires ancestors { ancestors.now ≡ tree.now }
     requires within { e < length graph.now.edges }
     requires leaves { tree.now.leaves ≡ graph.now.n }
     requires roots { EndsShareRoots graph.now tree.now }
@@ -46,6 +54,6 @@ fn value(graph: &Graph, tree: &Tree, e: u32) -> u64
     let edge = graph.edge(e);
     let leaves = tree.leaves();
     prove!(edge.u < leaves && edge.v < leaves);
-    let node = tree.lca(edge.u, edge.v).unwrap();
+    let node = ancestors.lca(edge.u, edge.v).unwrap();
     tree.altitude(node)
 }

@@ -12,3 +12,5 @@ pub mod Ranges
 pub mod Reading
 pub mod Edges
 pub mod RootEdges
+pub mod ByNumber
+pub mod Dealing

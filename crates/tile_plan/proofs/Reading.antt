@@ -1,7 +1,7 @@
 -- What the readers of a plan give.
 use Rattle.std.proofs.Common.{◌≡◌, ℕ, ◌+◌, ◌<◌, ◌≤◌, inl, inr, [], ◌∷◌, refl, sym, ◌∙◌, subst, ap, arith, List, length, get_or}
 use Rattle.std.specs.Prelude.{slice_index, Option, Some, ◌==◌}
-use Rattle.std.proofs.lemmas.Bool.{eq-eqb, eqb-true, true≢false}
+use Rattle.std.proofs.lemmas.Bool.{cases_lt, eq-eqb, eqb-true, true≢false}
 use Rattle.std.proofs.lemmas.List.{get_or_read}
 use Rattle.std.proofs.lemmas.List.FromFn.{length-map-range_with_len, get_or-map-range_with_len}
 use Rattle.hg_base.specs.Rising.{IsRising}
@@ -95,25 +95,31 @@ pub lot-rising : (q : TilePlan) (i : ℕ) → IsPlan q → IsRising (lot_edges q
 unfolding lot_edges lot_between_vertices
 lot-rising q i h = renamed-rising (place_of q) (lot_between_vertices q i) (IsRising-filter (λ e. is_lot_of (part q i).tree (part q i).site (home q e.u) (home q e.v)) q.edges h.rising)
 
--- the vertex at a place: that of the table, since each place is a vertex's
+-- the vertex at a place: the first that has it, since each place is a vertex's
 pub record IsVertexAt (q : TilePlan) (place v : ℕ) : Type 0 where
   pub value : place_of q v ≡ place
   pub below : v < vertices q
 
 -- a one-to-one function from the numbers below n to themselves takes each value
-onto : (f : ℕ → ℕ) (n k : ℕ) → Into f n n → IsOneToOne n f → k < n → (v : ℕ) × ((v < n) × (f v ≡ k))
+pub onto : (f : ℕ → ℕ) (n k : ℕ) → Into f n n → IsOneToOne n f → k < n → (v : ℕ) × ((v < n) × (f v ≡ k))
 onto f n k into one l =
     elim (least_below (λ v. f v == k) n) [
       | inl found ↦ (found.at, (found.low, eqb-true (f found.at) k found.passes))
       | inr none ↦ absurd (misses_none n f into one k l (λ i li e. true≢false (sym (eq-eqb (f i) k e) ∙ none i li)))
     ]
 
-pub vertex-read : (q : TilePlan) (place v : ℕ) (p : Places) → IsPlan q → HoldsPlaces q p → place < vertices q → v ≡ get_or p.vertices.items place v → IsVertexAt q place v
-vertex-read q place v p h hp l read =
+pub vertex-found : (q : TilePlan) (place v : ℕ) (p : Places) → IsPlan q → HoldsPlaces q p → place < vertices q
+    → ((i : ℕ) → i < v → slice_index p.places.items i ≡ place → ⊥) → (v < length p.places.items → slice_index p.places.items v ≡ place) → IsVertexAt q place v
+vertex-found q place v p h hp l before found =
     let some = onto (place_of q) (vertices q) place (λ i li. places-below q i h li) (places-once q h) l in
-    let long : length p.vertices.items ≡ vertices q = hp.long in
-    let is : v ≡ some.0 = get_or_read p.vertices.items place v (omega arith) read 0 ∙ ap (slice_index p.vertices.items) (sym some.1.1) ∙ hp.at some.0 some.1.0 in
-    record { value = ap (place_of q) is ∙ some.1.1; below = (let low : some.0 < vertices q = some.1.0 in omega arith) }
+    let long : length p.places.items ≡ vertices q = hp.places.long in
+    let its = hp.places.at some.0 some.1.0 ∙ some.1.1 in
+    elim (cases_lt some.0 v) [
+      | inl earlier ↦ absurd (before some.0 earlier its)
+      | inr first ↦
+          let below : v < vertices q = (let low : some.0 < vertices q = some.1.0 in omega arith) in
+          record { value = sym (hp.places.at v below) ∙ found (omega (arith, long, below)); below = below }
+    ]
 
 -- the parent of a part that isn't the root
 pub parent-left : (q : TilePlan) (i : ℕ) (row : Row) → IsRow q i row → (i ≡ root q → ⊥) → row.site.weight ≡ 1 → ◌≡◌ {A = Option (ℕ × Side)} (Some (row.site.mother, sides.Left)) (parent q i)

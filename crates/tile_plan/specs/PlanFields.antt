@@ -8,12 +8,10 @@ use Rattle.tile_plan.specs.declared.plan.Places.{Places}
 use Rattle.tile_plan.specs.declared.plan.Lots.{Lots}
 use Rattle.tile_plan.specs.declared.plan.Plan.TheInside.{Inside}
 
--- the first place of each tile, the place of each vertex, and the vertex at each place
+-- the first place of each tile, and the place of each vertex
 pub record HoldsPlaces (q : TilePlan) (p : Places) : Type 0 where
   pub starts : IsTable (start q) (tile_count q + 1) p.starts.items
   pub places : IsTable (place_of q) (vertices q) p.places.items
-  pub long : length p.vertices.items ≡ vertices q
-  pub at : (v : ℕ) → v < vertices q → slice_index p.vertices.items (place_of q v) ≡ v
 
 -- the lots end to end, and where each begins
 pub record HoldsLots (q : TilePlan) (p : Lots) : Type 0 where

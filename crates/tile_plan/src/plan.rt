@@ -19,12 +19,11 @@ use std::alloc::{AllocError, Global};
 use std::marker::Model;
 use std::snapshot::Snapshot;
 
-// The first place of each tile, the place of each vertex, and the vertex at each place.
+// The first place of each tile, and the place of each vertex.
 #[derive(Drop)]
 struct Places {
     starts: Vec<u32>,
     places: Vec<u32>,
-    vertices: Vec<u32>,
 }
 
 // The lots of all parts end to end, and where each begins.
@@ -69,22 +68,19 @@ fn places_of(alloc: Global, tiles: u32, homes: &[u32]) -> Result<Places, AllocEr
 {
     let starts = placing::starts(alloc, homes, tiles)?;
     let places = placing::places(alloc, homes, &starts)?;
-    let vertices = placing::inverse(alloc, &places)?;
-    Ok(Places {
-        starts,
-        places,
-        vertices,
-    })
+    Ok(Places { starts, places })
 }
 
 // The lots of all parts, by the tile and the place of each vertex.
 fn lots_of(
     alloc: Global,
+    graph: &Graph,
     order: &Order,
     grid: Grid,
     homes: &[u32],
     places: &[u32],
 ) -> Result<Lots, AllocError>
+    requires order { order.now ≡ order_of graph.now }
     requires small { IsSmall grid }
     requires homes { AreKeys (tiles_in grid) homes.now }
     requires vertices { order.now.n ≡ length homes.now }
@@ -95,7 +91,7 @@ fn lots_of(
     ensures lots { IfOk result (λ lots. (q : TilePlan) → IsPlan q → q.edges ≡ order.now.edges → grid ≡ grid_of q
         → IsTable (home q) (vertices q) homes.now → IsTable (place_of q) (vertices q) places.now → HoldsLots q lots) }
 {
-    let numbers = tables::lot_numbers(alloc, order, grid, homes)?;
+    let numbers = tables::lot_numbers(alloc, graph, order, grid, homes)?;
     let starts = placing::starts(alloc, &numbers, 2 * grid.tiles() - 1)?;
     let edges = tables::lots(alloc, order, &numbers, &starts, places)?;
     Ok(Lots { starts, edges })
@@ -113,7 +109,7 @@ impl Plan {
             height: 1,
             side: tile,
         };
-        Plan::over(alloc, order, frame)
+        Plan::over(alloc, graph, order, frame)
     }
 
     /// The plan of a graph whose vertices are the pixels of a picture, row after row, and whose tiles are squares of
@@ -138,11 +134,12 @@ impl Plan {
             height,
             side: tile,
         };
-        Plan::over(alloc, order, frame)
+        Plan::over(alloc, graph, order, frame)
     }
 
     // The plan over a frame.
-    fn over(alloc: Global, order: &Order, frame: Frame) -> Result<Plan, PlanFault>
+    fn over(alloc: Global, graph: &Graph, order: &Order, frame: Frame) -> Result<Plan, PlanFault>
+        requires order { order.now ≡ order_of graph.now }
         requires frame { IsFrame frame }
         requires vertices { order.now.n ≡ vertices_in frame }
         ensures { IsAnswer (record { frame = frame; edges = order.now.edges }) result }
@@ -151,10 +148,11 @@ impl Plan {
         if tiles > 65536 {
             return Err(PlanFault::TooManyTiles(u64::from(tiles)));
         }
-        Plan::laid(alloc, order, frame).map_err(|_| PlanFault::OutOfMemory)
+        Plan::laid(alloc, graph, order, frame).map_err(|_| PlanFault::OutOfMemory)
     }
 
-    fn laid(alloc: Global, order: &Order, frame: Frame) -> Result<Plan, AllocError>
+    fn laid(alloc: Global, graph: &Graph, order: &Order, frame: Frame) -> Result<Plan, AllocError>
+        requires order { order.now ≡ order_of graph.now }
         requires frame { IsFrame frame }
         requires vertices { order.now.n ≡ vertices_in frame }
         requires small { IsSmall (grid_in frame) }
@@ -165,7 +163,7 @@ impl Plan {
         let rows = tables::parts(alloc, grid)?;
         let homes = tables::homes(alloc, frame, grid, &tables::tile_numbers(alloc, grid)?)?;
         let places = places_of(alloc, tiles, &homes)?;
-        let lots = lots_of(alloc, order, grid, &homes, &places.places)?;
+        let lots = lots_of(alloc, graph, order, grid, &homes, &places.places)?;
         Ok(Plan {
             frame,
             tiles,
@@ -243,13 +241,13 @@ impl Plan {
         self.places.places[v as usize]
     }
 
-    /// The vertex at a place.
+    /// The vertex at a place: it is searched among all.
     pub fn vertex_at(&self, place: u32) -> u32
         requires { place < vertices self.now }
         ensures value { place_of self.now result ≡ place }
         ensures below { result < vertices self.now }
     {
-        self.places.vertices[place as usize]
+        placing::first_at(&self.places.places, place) as u32
     }
 
     /// The places that a part covers: the first, and how many.

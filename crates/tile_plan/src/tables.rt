@@ -1,4 +1,6 @@
-ghost use Rattle.std.specs.Prelude.{◌≡◌, ℕ, ◌+◌, ◌-◌, ◌*◌, ◌<◌, ◌≤◌, ◌==◌, IfOk, length, map, filter, slice_index, slice_range};
+ghost use Rattle.std.specs.Prelude.{◌≡◌, ℕ, ◌+◌, ◌-◌, ◌*◌, ◌<◌, ◌≤◌, ◌==◌, IfOk, length, map, filter, slice_index, slice_range, All};
+ghost use Rattle.hg_base.specs.Graph.{JoinsTwo};
+ghost use Rattle.edge_order.specs.Order.{order_of};
 ghost use Rattle.hg_base.specs.Edges.{ListedEdge, IsIn, renamed};
 ghost use Rattle.hg_base.specs.Placed.{placed};
 ghost use Rattle.hg_base.specs.Rising.{IsRising};
@@ -8,9 +10,10 @@ ghost use Rattle.tile_plan.specs.Placing.{AreKeys, IsTable, start_by};
 ghost use Rattle.tile_plan.specs.Plan.{IsEdgeAmong};
 
 use crate::frame::Frame;
+use crate::placing;
 use crate::site::{Grid, Row, Site, find, lot_of};
 use edge_order::Order;
-use hg_base::PlacedEdge;
+use hg_base::{Graph, PlacedEdge};
 use std::alloc::{AllocError, Global};
 
 // Where the root of a plan of `n` tiles stands.
@@ -93,13 +96,39 @@ fn lot_between(grid: Grid, first: u32, second: u32) -> u32
     lot_of(n, grid, root(n), first, second)
 }
 
+// The part in whose lot each edge is, by number.
+fn lots_by_number(
+    alloc: Global,
+    graph: &Graph,
+    grid: Grid,
+    homes: &[u32],
+) -> Result<Vec<u32>, AllocError>
+    requires small { IsSmall grid }
+    requires homes { AreKeys (tiles_in grid) homes.now }
+    requires vertices { graph.now.n ≡ length homes.now }
+    ensures numbers { IfOk result (λ v. v.items ≡ map (λ e. lot_in grid (slice_index homes.now e.u) (slice_index homes.now e.v)) graph.now.edges) }
+    ensures below { IfOk result (λ v. AreKeys (2 * tiles_in grid - 1) v.items) }
+    ensures ends { IfOk result (λ _. All (JoinsTwo graph.now.n) graph.now.edges) }
+{
+    let mut numbers = Vec::with_capacity(alloc, graph.m() as usize)?;
+    for number in 0..graph.m() {
+        let edge = graph.edge(number);
+        let first = homes[edge.u as usize];
+        let second = homes[edge.v as usize];
+        numbers.push(lot_between(grid, first, second))?;
+    }
+    Ok(numbers)
+}
+
 // The part in whose lot each edge is, by rank.
 pub(crate) fn lot_numbers(
     alloc: Global,
+    graph: &Graph,
     order: &Order,
     grid: Grid,
     homes: &[u32],
 ) -> Result<Vec<u32>, AllocError>
+    requires order { order.now ≡ order_of graph.now }
     requires small { IsSmall grid }
     requires homes { AreKeys (tiles_in grid) homes.now }
     requires vertices { order.now.n ≡ length homes.now }
@@ -109,12 +138,10 @@ pub(crate) fn lot_numbers(
     ensures rising { IfOk result (λ _. IsRising order.now.edges) }
     ensures edges { IfOk result (λ _. (e : ListedEdge) → IsIn e order.now.edges → IsEdgeAmong order.now.n e) }
 {
+    let own = lots_by_number(alloc, graph, grid, homes)?;
     let mut numbers = Vec::with_capacity(alloc, order.len() as usize)?;
     for rank in 0..order.len() {
-        let edge = order.at(rank);
-        let first = homes[edge.u as usize];
-        let second = homes[edge.v as usize];
-        numbers.push(lot_between(grid, first, second))?;
+        numbers.push(own[order.edge_at(rank) as usize])?;
     }
     Ok(numbers)
 }
@@ -127,6 +154,7 @@ pub(crate) fn lots(
     starts: &[u32],
     places: &[u32],
 ) -> Result<Vec<PlacedEdge>, AllocError>
+    requires few { length numbers.now ≤ 4194304 }
     requires numbers { length numbers.now ≡ length order.now.edges }
     requires lots { (i : ℕ) → i < length numbers.now → slice_index numbers.now i + 1 < length starts.now }
     requires starts { IsTable (start_by (slice_index numbers.now) (length numbers.now)) (length starts.now) starts.now }
@@ -136,23 +164,15 @@ pub(crate) fn lots(
         slice_range v.items (slice_index starts.now i) (slice_index starts.now (i + 1))
         ≡ map placed (renamed (slice_index places.now) (filter (λ e. lot e == i) order.now.edges))) }
 {
-    let none = PlacedEdge {
-        rank: 0,
-        a: 0,
-        b: 0,
-    };
-    let mut next = Vec::from_slice(alloc, starts)?;
-    let mut lots = vec![in alloc; none; order.len() as usize]?;
-    for rank in 0..order.len() {
-        let edge = order.at(rank);
-        let lot = numbers[rank as usize] as usize;
-        let place = next[lot];
-        next[lot] = place + 1;
-        lots[place as usize] = PlacedEdge {
-            rank,
+    let by_lot = placing::in_order(alloc, numbers, starts)?;
+    let mut lots = Vec::with_capacity(alloc, by_lot.len())?;
+    for rank in &by_lot {
+        let edge = order.at(*rank);
+        lots.push(PlacedEdge {
+            rank: *rank,
             a: places[edge.u as usize],
             b: places[edge.v as usize],
-        };
+        })?;
     }
     Ok(lots)
 }

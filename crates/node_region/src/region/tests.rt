@@ -43,7 +43,11 @@ fn check_covered(rt: &impl Abort, region: &Region, id: u32)
 fn check_used(rt: &impl Abort, region: &Region, id: u32, turn: u32)
     ensures { IsUsed region.now id }
 {
-    let found = region.find(Hint { cell: id, turn });
+    let found = region.find(Hint {
+        cell: id,
+        turn,
+        rank: 0,
+    });
     assert!(rt; found.is_some());
 }
 
@@ -83,7 +87,11 @@ fn free_numbers_run_over_chunks(rt: HostRuntime) -> Result<(), Fail> {
 #[test]
 fn what_is_noted_is_read(rt: HostRuntime) -> Result<(), Fail> {
     let mut region = region(&rt, rt.alloc(), 4, 2, 2, 1);
-    let hint = Hint { cell: 4, turn: 1 };
+    let hint = Hint {
+        cell: 4,
+        turn: 1,
+        rank: 7,
+    };
     check_covered(&rt, &region, 4);
     region.set_leaf(4, Some(5));
     region.set_finger(4, Some(hint));

@@ -1,6 +1,6 @@
-use Rattle.std.proofs.Common.{arith, sym, ◌∙◌}
+use Rattle.std.proofs.Common.{arith}
 use Rattle.border_climb.proofs.Ways.{named-found}
 use Rattle.border_climb.proofs.climbing.noted.Goals as goal
 
-pub returns : goal.returns
-returns c = named-found c.args.region.now c.args.note c.in_ok-hint.hint c.in_ok-rank.field-0 c.in_ok-hint.was (sym c.find.ensures ∙ c.in_ok-rank.was) (omega arith)
+pub returns-then-rank-r-clause-named : goal.returns-then-rank-r-clause-named
+returns-then-rank-r-clause-named c = named-found c.args.region.now c.args.note c.in_ok-hint.hint c.in_ok-entry.entry.cell c.in_ok-hint.was c.in_ok-entry.ensures.found (omega arith)

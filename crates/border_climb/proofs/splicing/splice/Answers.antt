@@ -1,7 +1,12 @@
 use Rattle.std.proofs.Common.{refl, sym, ◌∙◌}
 use Rattle.std.proofs.lemmas.Bool.{true≢false}
+use Rattle.border_climb.proofs.Pools.{links-differs}
+use Rattle.border_climb.proofs.Ways.{begun-same}
 use Rattle.border_climb.proofs.Splices.{listed, climbed, list-same, opened-seam, spliced-one, spliced-merged, merged-sound, fresh-apart}
 use Rattle.border_climb.proofs.splicing.splice.Goals as goal
+
+pub last_below-second-requires-clause-begun : goal.last_below-second-requires-clause-begun
+last_below-second-requires-clause-begun c = begun-same _ _ (links-differs _ _ c.last_below-first.ensures.notes) c.args.e.b c.args.e.rank _ c.begin-second_begun.ensures
 
 pub returns-then-are_one-clause-spliced : goal.returns-then-are_one-clause-spliced
 returns-then-are_one-clause-spliced c = λ f s is l.

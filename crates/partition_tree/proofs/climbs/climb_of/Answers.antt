@@ -8,26 +8,26 @@ use Rattle.partition_tree.proofs.climbs.climb_of.Goals as goal
 
 pub returns-then-parent-i : goal.returns-then-parent-i
 returns-then-parent-i c =
-    let root : parent c.args.forest.now c.args.i ≡ c.args.i = sym c.parent-parent.ensures.value ∙ c.if-parent-i.true in
+    let root : parent c.args.tree.now c.args.i ≡ c.args.i = sym c.parent-parent.ensures.value ∙ c.if-parent-i.true in
     record {
       at_root = λ e. refl;
       below_root = λ ne. absurd (ne root);
-      above = above-self c.args.forest.now c.args.i;
+      above = above-self c.args.tree.now c.args.i;
       within = c.requires.within;
       up = λ ne. absurd (ne root);
     }
 
 pub jump_above-jump-requires-clause-climbs : goal.jump_above-jump-requires-clause-climbs
 jump_above-jump-requires-clause-climbs c =
-    climbs-fewer c.args.forest.now (c.args.i + 1) c.parent-parent.result _ _ (omega arith) c.requires.climbs
+    climbs-fewer c.args.tree.now (c.args.i + 1) c.parent-parent.result _ _ (omega arith) c.requires.climbs
 
 pub overflow_add-result : goal.overflow_add-result
 overflow_add-result c =
-    omega (arith, depth-fits c.args.forest.now (c.args.i + 1) _ _ c.parent-parent.result c.requires.climbs (omega arith) (omega arith))
+    omega (arith, depth-fits c.args.tree.now (c.args.i + 1) _ _ c.parent-parent.result c.requires.climbs (omega arith) (omega arith))
 
 pub returns : goal.returns
 returns c =
-    let t = c.args.forest.now in
+    let t = c.args.tree.now in
     let is : c.parent-parent.result ≡ parent t c.args.i = c.parent-parent.ensures.value in
     record {
       at_root = λ e. absurd (c.if-parent-i.false (is ∙ e));

@@ -1,25 +1,17 @@
-use Rattle.std.proofs.Common.{ap, ◌∙◌}
-use Rattle.rayon.proofs.ListFacts.{IfOk-then}
-use Rattle.rayon.proofs.ToStd.{slice-map}
-use Rattle.pgm_reader.specs.Grid.{links, edge_between}
-use Rattle.pgm_reader.proofs.Grids.{links-two}
+use Rattle.std.proofs.Common.{◌≡◌, ◌∙◌, ◌++◌, ℕ, List, ap, take, drop, length, refl, arith}
+use Rattle.std.proofs.Math.Seq.{take-append_seam}
+use Rattle.hg_base.specs.declared.graph.Edge.{Edge}
 use Rattle.pgm_reader.proofs.grid.edges.Goals as goal
 
 pub links-requires-clause-pixels : goal.links-requires-clause-pixels
 links-requires-clause-pixels g c = rw (c.width.ensures.value, c.height.ensures.value) c.width.ensures.picture.pixels
 
-pub collect-requires-clause-ready : goal.collect-requires-clause-ready
-collect-requires-clause-ready g c κs within =
-    let slice = ap (λ it. it.slice.now) c.map.ensures.base ∙ c.par_iter.ensures ∙ c.in_ok-links.ensures in
-    rw (slice, c.width.ensures.value, c.height.ensures.value, c.map.ensures.f) (λ k d l x e.
-    let two = links-two c.args.picture.now.width c.args.picture.now.height c.width.ensures.picture.some_width k d l in
-    rw e ((two.first, two.second), λ y p. tt))
+pub weigh-requires-clause-links : goal.weigh-requires-clause-links
+weigh-requires-clause-links g c κs within = rw (c.deref_mut.ensures.value, c.in_ok-edges.ensures, c.width.ensures.value, c.height.ensures.value) refl
 
 pub returns : goal.returns
 returns g c =
-    let picture = c.args.picture.now in
-    let slice = ap (λ it. it.slice.now) c.map.ensures.base ∙ c.par_iter.ensures ∙ c.in_ok-links.ensures in
-    let all = rw (c.width.ensures.value, c.height.ensures.value) at slice in
-    IfOk-then c.collect.result _ _ c.collect.ensures (λ v h.
-    let chain = rw c.map.ensures.f at h.1 in
-    h.2 ∙ slice-map chain.0 (links picture.width picture.height) (chain.1 ∙ all) (edge_between picture.samples) h.0 chain.2)
+    let weighed = c.weigh.new.edges in
+    let rest : List Edge = drop (length weighed) c.in_ok-edges.edges.items in
+    let long : c.in_ok-edges.edges.len ≡ length weighed = omega (arith, c.in_ok-edges.edges.ok, c.deref_mut.ensures.len, c.weigh.auto.edges) in
+    ap (λ (n : ℕ). take n (weighed ++ rest)) long ∙ take-append_seam weighed rest ∙ c.weigh.ensures

@@ -18,7 +18,7 @@ loop-i-preserved c =
           ∙ values_more (λ i. zone_number t (next_kept t i)) (keeps t) c.loop-i.i (get_or c.args.numbers.now w.parent.result 0) c.loop-i.parents.items w.push.new.self.items c.loop-i.invariant
           (sym c.keeps.ensures ∙ w.if-keeps.true)
           (ap (λ (p : ℕ). get_or c.args.numbers.now p 0) w.parent.ensures.value
-          ∙ c.requires.each (parent t c.loop-i.i) (f.within c.loop-i.i (omega (arith, low, c.nodes-i-end.ensures.value)))
+          ∙ c.requires.nearest.each (parent t c.loop-i.i) (f.within c.loop-i.i (omega (arith, low, c.nodes-i-end.ensures.value)))
           ∙ ap (zone_number t) (sym (next_kept-parent t (forest-climbs t f) c.loop-i.i (omega (arith, low, c.nodes-i-end.ensures.value)))))
           w.in_ok-push.ensures.items
       | else-keeps w ↦

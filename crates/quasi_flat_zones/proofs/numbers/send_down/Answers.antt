@@ -5,7 +5,7 @@ use Rattle.quasi_flat_zones.proofs.numbers.send_down.Goals as goal
 
 pub loop-i-init : goal.loop-i-init
 loop-i-init c =
-    subst (λ (n : ℕ). AreSentFrom c.args.tree.now n c.args.numbers.now) (sym c.nodes-i.ensures.value) (sent_first c.args.tree.now c.args.numbers.now c.requires)
+    subst (λ (n : ℕ). AreSentFrom c.args.tree.now n c.args.numbers.now) (sym c.nodes-i.ensures.value) (sent_first c.args.tree.now c.args.numbers.now c.requires.own)
 
 pub loop-i-preserved : goal.loop-i-preserved
 loop-i-preserved c =

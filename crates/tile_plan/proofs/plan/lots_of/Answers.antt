@@ -9,6 +9,12 @@ starts-requires-clause-few c =
     let few = c.in_ok-numbers.ensures.few in
     omega (arith, long, few)
 
+pub lots-requires-clause-few : goal.lots-requires-clause-few
+lots-requires-clause-few c =
+    let long : length c.deref-2.result.now ≡ length c.args.order.now.edges = ap length (c.deref-2.ensures.value ∙ c.in_ok-numbers.ensures.numbers) ∙ length-map _ _ in
+    let few = c.in_ok-numbers.ensures.few in
+    omega (arith, long, few)
+
 pub returns-clause-lots : goal.returns-clause-lots
 returns-clause-lots c = λ q plan same grid homes places.
     lots-hold q c.args.order.now.edges c.args.grid (2 * c.tiles.result - 1) c.args.homes.now c.args.places.now c.in_ok-numbers.numbers.items c.deref.result.now c.deref-2.result.now c.deref-3.result.now

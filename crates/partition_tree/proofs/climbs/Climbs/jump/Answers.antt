@@ -5,6 +5,6 @@ use Rattle.partition_tree.proofs.climbs.Climbs.jump.Goals as goal
 
 pub returns-clause-above : goal.returns-clause-above
 returns-clause-above c =
-    subst (λ k. IsAbove c.args.forest.now k c.args.i)
+    subst (λ k. IsAbove c.args.tree.now k c.args.i)
     (sym (get_or_read c.args.self.now.jumps.items c.args.i c.index.result.now (omega arith) c.index.ensures 0))
     (c.requires.climbs.jump_above c.args.i (omega arith) c.requires.within)

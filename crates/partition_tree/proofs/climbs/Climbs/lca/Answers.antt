@@ -11,7 +11,7 @@ returns-in_err-a-clause-lowest c =
 
 pub loop-a-preserved : goal.loop-a-preserved
 loop-a-preserved c =
-    let t = c.args.forest.now in
+    let t = c.args.tree.now in
     let g = c.in_ok-a.ensures.next in
     record {
       a_within = c.in_ok-a.ensures.within.0;
@@ -23,7 +23,7 @@ loop-a-preserved c =
 
 pub returns-clause-lowest : goal.returns-clause-lowest
 returns-clause-lowest c =
-    let t = c.args.forest.now in
+    let t = c.args.tree.now in
     let same : c.loop-a.b ≡ c.loop-a.a = omega arith in
     met-lowest t c.requires.climbs.forest c.args.a c.args.b c.loop-a.a c.loop-a.invariant.first (subst (λ k. IsAbove t k c.args.b) same c.loop-a.invariant.second)
     (λ j p. subst (λ k. IsCommon t c.loop-a.a k j) same (c.loop-a.invariant.kept j p))

@@ -5,10 +5,10 @@ use Rattle.partition_tree.proofs.climbs.Climbs.lifted.Goals as goal
 
 pub returns-then-depth-clause-next : goal.returns-then-depth-clause-next
 returns-then-depth-clause-next c =
-    let up = c.jump-jump.ensures.up (deep-up c.args.forest.now _ _ c.requires.climbs c.args.deep c.requires.deep (omega arith)) in
-    lift-jump c.args.forest.now _ _ c.requires.climbs.forest c.requires.climbs c.args.deep c.args.other _ c.requires.deep c.requires.other c.jump-jump.ensures.above up (omega arith)
+    let up = c.jump-jump.ensures.up (deep-up c.args.tree.now _ _ c.requires.climbs c.args.deep c.requires.deep (omega arith)) in
+    lift-jump c.args.tree.now _ _ c.requires.climbs.forest c.requires.climbs c.args.deep c.args.other _ c.requires.deep c.requires.other c.jump-jump.ensures.above up (omega arith)
 
 pub returns-else-depth-clause-next : goal.returns-else-depth-clause-next
 returns-else-depth-clause-next c =
-    subst (λ p. GoesOn c.args.forest.now c.args.deep c.args.other p c.args.other) (sym c.parent.ensures.value)
-    (lift-parent c.args.forest.now _ _ c.requires.climbs.forest c.requires.climbs c.args.deep c.args.other c.requires.deep c.requires.other c.requires.deeper)
+    subst (λ p. GoesOn c.args.tree.now c.args.deep c.args.other p c.args.other) (sym c.parent.ensures.value)
+    (lift-parent c.args.tree.now _ _ c.requires.climbs.forest c.requires.climbs c.args.deep c.args.other c.requires.deep c.requires.other c.requires.deeper)

@@ -6,11 +6,11 @@ use Rattle.partition_tree.proofs.climbs.Climbs.lifted_both.Goals as goal
 
 pub returns-then-depth-eq0-clause-next : goal.returns-then-depth-eq0-clause-next
 returns-then-depth-eq0-clause-next c =
-    λ j. both-roots c.args.forest.now _ _ c.requires.climbs c.args.a c.args.b j c.requires.a c.requires.b c.requires.apart c.requires.level (omega arith)
+    λ j. both-roots c.args.tree.now _ _ c.requires.climbs c.args.a c.args.b j c.requires.a c.requires.b c.requires.apart c.requires.level (omega arith)
 
 pub returns-then-depth-clause-next : goal.returns-then-depth-clause-next
 returns-then-depth-clause-next c =
-    let t = c.args.forest.now in
+    let t = c.args.tree.now in
     let deep : 0 < depth c.args.self.now.depths.items c.args.a = omega arith in
     let deep_b : 0 < depth c.args.self.now.depths.items c.args.b = omega arith in
     both-jump t _ _ c.requires.climbs.forest c.requires.climbs c.args.a c.args.b _ _ c.requires.a c.requires.b
@@ -22,7 +22,7 @@ returns-then-depth-clause-next c =
 
 pub returns-else-jump_a-jump_b-clause-next : goal.returns-else-jump_a-jump_b-clause-next
 returns-else-jump_a-jump_b-clause-next c =
-    let t = c.args.forest.now in
+    let t = c.args.tree.now in
     let g : GoesOn t c.args.a c.args.b (parent t c.args.a) (parent t c.args.b) =
     both-parent t _ _ c.requires.climbs.forest c.requires.climbs c.args.a c.args.b c.requires.a c.requires.b c.requires.apart c.requires.level (omega arith) in
     rw (c.parent.ensures.value, c.parent-else-jump_a-jump_b.ensures.value) g

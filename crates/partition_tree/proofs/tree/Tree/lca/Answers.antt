@@ -1,8 +1,5 @@
-use Rattle.std.proofs.Common.{◌<◌, subst, sym}
-use Rattle.partition_tree.specs.Forest.{nodes}
 use Rattle.partition_tree.proofs.PathLemmas.{shares-told}
 use Rattle.partition_tree.proofs.tree.Tree.lca.Goals as goal
 
 pub returns-clause-roots : goal.returns-clause-roots
-returns-clause-roots c =
-    rw (← c.self.view_is) (shares-told c.self.inside.forest c.self.invariant.climbs.forest c.args.a c.args.b (subst (λ t. c.args.a < nodes t) (sym c.self.view_is) c.requires.a) c.lca.result c.lca.ensures.lowest)
+returns-clause-roots c = shares-told c.args.self.now c.met.ensures.forest c.args.a c.args.b c.requires.a c.met.result c.met.ensures.lowest

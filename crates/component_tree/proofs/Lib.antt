@@ -1,0 +1,16 @@
+pub mod Members
+pub mod Reach
+pub mod Floods
+pub mod Built
+pub mod Sinking
+pub mod Heads
+pub mod Unique
+pub mod Turning
+pub mod Ends
+pub mod Sided
+pub mod Flooded
+pub mod PassSteps
+pub mod Sorting
+pub mod Leasts
+pub mod Placing
+pub mod Result

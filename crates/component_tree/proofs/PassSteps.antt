@@ -1,0 +1,100 @@
+-- Steps of the passes: one more value, one more number that passes, one more edge.
+use Rattle.std.proofs.Common.{◌≡◌, ℕ, zero, suc, ◌+◌, ◌-◌, ◌<◌, ◌≤◌, Bool, true, false, cond, inl, inr, refl, sym, ◌∙◌, subst, ap, arith, List, [], ◌∷◌, ◌++◌, length, map, get_or, take, append_assoc, append-nil, add-one}
+use Rattle.std.specs.Prelude.{Option, Some, None, All, filter, slice_get, nat_lt, if◌then◌else◌, codes}
+use Rattle.std.specs.List.{range_with_len, flat_map}
+use Rattle.std.proofs.lemmas.Bool.{lt-ltb, le-ltb}
+use Rattle.std.proofs.lemmas.List.{map-append}
+use Rattle.std.proofs.lemmas.List.FromFn.{map-range_with_len_more}
+use Rattle.hg_base.specs.Text.{line}
+use Rattle.hg_base.proofs.Leasts.{map-agree}
+use Rattle.hg_base.proofs.Passing.{passing, passing-suc}
+use Rattle.partition_tree.proofs.NodeLemmas.{pieces_more}
+use Rattle.component_tree.specs.Components.{ComponentLists, parent_of, level_of}
+use Rattle.component_tree.specs.Report.{component_line}
+use Rattle.component_tree.proofs.Unique.{range-parts}
+
+-- the value of the next number is there
+pub values_next : {X : Type 0} (f : ℕ → X) (n : ℕ) (v : X) (items new : List X) → items ≡ map f (range_with_len 0 n) → v ≡ f n → new ≡ items ++ v ∷ [] → new ≡ map f (range_with_len 0 (n + 1))
+values_next {X} f n v items new so_far value pushed =
+    pushed
+    ∙ ap (λ (xs : List X). xs ++ v ∷ []) so_far
+    ∙ ap (λ (x : X). map f (range_with_len 0 n) ++ x ∷ []) value
+    ∙ sym (map-range_with_len_more f 0 n n (omega arith))
+
+-- so behind other values
+pub values_behind : (f : ℕ → ℕ) (a i v : ℕ) (first items new : List ℕ) → a ≤ i → items ≡ first ++ map f (range_with_len a (i - a)) → v ≡ f i → new ≡ items ++ v ∷ [] → new ≡ first ++ map f (range_with_len a (i + 1 - a))
+values_behind f a i v first items new low so_far value pushed =
+    let e : (i - a) + 1 ≡ i + 1 - a = omega arith in
+    pushed
+    ∙ ap (λ (xs : List ℕ). xs ++ v ∷ []) so_far
+    ∙ append_assoc first (map f (range_with_len a (i - a))) (v ∷ [])
+    ∙ ap (λ (l : List ℕ). first ++ l) (ap (λ (x : ℕ). map f (range_with_len a (i - a)) ++ x ∷ []) value ∙ sym (map-range_with_len_more f a (i - a) i (omega arith)) ∙ ap (λ (k : ℕ). map f (range_with_len a k)) e)
+
+-- the next number passes, and its value is there
+pub values_more : {X : Type 0} (f : ℕ → X) (p : ℕ → Bool) (i : ℕ) (v : X) (items new : List X) → items ≡ map f (passing p i) → p i ≡ true → v ≡ f i → new ≡ items ++ v ∷ [] → new ≡ map f (passing p (i + 1))
+values_more {X} f p i v items new so_far passes value pushed =
+    let e : i + 1 ≡ suc i = omega arith in
+    let one : passing p (suc i) ≡ passing p i ++ i ∷ [] = passing-suc p i ∙ ap (λ (b : Bool). passing p i ++ cond b (i ∷ []) []) passes in
+    pushed
+    ∙ ap (λ (xs : List X). xs ++ v ∷ []) so_far
+    ∙ ap (λ (x : X). map f (passing p i) ++ x ∷ []) value
+    ∙ sym (map-append f (passing p i) (i ∷ []))
+    ∙ ap (map f) (sym one)
+    ∙ ap (λ (n : ℕ). map f (passing p n)) (sym e)
+
+-- the next number doesn't pass
+pub values_same : {X : Type 0} (f : ℕ → X) (p : ℕ → Bool) (i : ℕ) (items : List X) → items ≡ map f (passing p i) → p i ≡ false → items ≡ map f (passing p (i + 1))
+values_same {X} f p i items so_far fails =
+    let e : i + 1 ≡ suc i = omega arith in
+    let one : passing p (suc i) ≡ passing p i ++ [] = passing-suc p i ∙ ap (λ (b : Bool). passing p i ++ cond b (i ∷ []) []) fails in
+    so_far ∙ ap (map f) (sym (append-nil (passing p i)) ∙ sym one) ∙ ap (λ (n : ℕ). map f (passing p n)) (sym e)
+
+-- the values of two functions, one after the other, are those of one
+pub split-values : (f g : ℕ → ℕ) (n m : ℕ) (first items : List ℕ) → n ≤ m → first ≡ map f (range_with_len 0 n) → items ≡ first ++ map g (range_with_len n (m - n)) →
+    items ≡ map (λ i. if nat_lt i n then f i else g i) (range_with_len 0 m)
+split-values f g n m first items low front whole =
+    let e : n + (m - n) ≡ m = omega arith in
+    let z : 0 + n ≡ n = omega arith in
+    whole
+    ∙ ap (λ (l : List ℕ). l ++ map g (range_with_len n (m - n))) (front ∙ map-agree f h 0 n (λ i l u. sym (rw (lt-ltb i n (omega arith)) refl)))
+    ∙ ap (λ (l : List ℕ). map h (range_with_len 0 n) ++ l) (map-agree g h n (m - n) (λ i l u. sym (rw (le-ltb i n l) refl)))
+    ∙ sym (map-append h (range_with_len 0 n) (range_with_len n (m - n)))
+    ∙ ap (λ (k : ℕ). map h (range_with_len 0 n ++ range_with_len k (m - n))) (sym z)
+    ∙ ap (map h) (sym (range-parts 0 n (m - n)))
+    ∙ ap (λ (k : ℕ). map h (range_with_len 0 k)) e
+  where
+    h : ℕ → ℕ
+    h i = if nat_lt i n then f i else g i
+
+-- one more of a list
+take-next : {X : Type 0} (xs : List X) (k : ℕ) (x : X) → slice_get xs k ≡ Some x → take (suc k) xs ≡ take k xs ++ x ∷ []
+take-next [] k x e = absurd (cc)
+take-next (y ∷ xs) zero x e = let same : y ≡ x = cc in ap (λ z. z ∷ []) same
+take-next {X} (y ∷ xs) (suc k) x e = ap (λ (l : List X). y ∷ l) (take-next xs k x e)
+
+pub mapped_next : {X Y : Type 0} (h : X → Y) (xs : List X) (k : ℕ) (x : X) (v : Y) (items new : List Y) → items ≡ map h (take k xs) → slice_get xs k ≡ Some x → v ≡ h x → new ≡ items ++ v ∷ [] → new ≡ map h (take (k + 1) xs)
+mapped_next {X} {Y} h xs k x v items new so_far there value pushed =
+    let e : k + 1 ≡ suc k = omega arith in
+    pushed
+    ∙ ap (λ (l : List Y). l ++ v ∷ []) so_far
+    ∙ ap (λ (y : Y). map h (take k xs) ++ y ∷ []) value
+    ∙ sym (map-append h (take k xs) (x ∷ []))
+    ∙ ap (map h) (sym (take-next xs k x there))
+    ∙ ap (λ (n : ℕ). map h (take n xs)) (sym e)
+
+-- what holds of each element holds with one more
+last-of : {X : Type 0} (P : X → Type 0) (xs : List X) (v : X) → All P xs → P v → All P (xs ++ v ∷ [])
+last-of P [] v all p zero d lt = p
+last-of P [] v all p (suc k) d lt = absurd (omega arith)
+last-of P (x ∷ xs) v all p zero d lt = all 0 d (omega arith)
+last-of P (x ∷ xs) v all p (suc k) d lt = last-of P xs v (λ j e h. all (suc j) e (omega arith)) p k d (omega arith)
+
+pub all_next : {X : Type 0} (P : X → Type 0) (xs new : List X) (v : X) → All P xs → P v → new ≡ xs ++ v ∷ [] → All P new
+all_next {X} P xs new v all p pushed = subst (λ (l : List X). All P l) (sym pushed) (last-of P xs v all p)
+
+-- a node's line is written
+pub line_more : (tree : ComponentLists) (head text new : List ℕ) (i a b d : ℕ) → text ≡ head ++ flat_map (component_line tree) (range_with_len 0 i) → new ≡ text ++ line (a ∷ b ∷ d ∷ []) → a ≡ i → b ≡ parent_of tree i → d ≡ level_of tree i →
+    new ≡ head ++ flat_map (component_line tree) (range_with_len 0 (i + 1))
+line_more tree head text new i a b d so_far pushed number above high =
+    let more = pieces_more (component_line tree) head i in
+    cc

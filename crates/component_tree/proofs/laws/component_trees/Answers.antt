@@ -1,0 +1,10 @@
+use Rattle.hg_base.proofs.Ranked.{AreWithin-ranked}
+use Rattle.component_tree.proofs.Sided.{value-fits, one-tree}
+use Rattle.component_tree.proofs.Ends.{ends-tree}
+use Rattle.component_tree.proofs.Flooded.{flooded}
+use Rattle.component_tree.proofs.laws.component_trees.Goals as goal
+
+pub returns : goal.returns
+returns c = record {
+  only_one = λ side values g tree is values_are long c'. one-tree side values g tree (AreWithin-ranked g is) (value-fits values values_are.each) c';
+}

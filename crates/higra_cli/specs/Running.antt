@@ -25,7 +25,7 @@ use Rattle.watershed_cut.specs.Watershed.{WatershedCut, watershed_of}
 use Rattle.higra_cli.specs.Command.{requested}
 use Rattle.higra_cli.specs.Inputs.{graph_of, input_for}
 use Rattle.higra_cli.specs.Reading.{Told, GaveInput, StopsReading}
-use Rattle.higra_cli.specs.Reports.{graph_energies, graph_energy_cut, picture_components, receipt_of, refusal, report_of}
+use Rattle.higra_cli.specs.Reports.{component_side, graph_energies, graph_energy_cut, picture_components, receipt_of, refusal, report_of}
 use Rattle.higra_cli.specs.Request.{can_be_drawn}
 use Rattle.higra_cli.specs.declared.input.Input.{Input}
 use Rattle.higra_cli.specs.declared.input.Input.TheVariants.{Edges, Picture}
@@ -137,11 +137,16 @@ pub record IsHierarchy (g : WeightedGraph) : Type 0 where
   pub hierarchies : (kind : Kind) → BeginsAtWatershed g (hierarchy_of g kind)
   pub cuts : (penalty : ℕ) → IsLeastCut (graph_tree g) (graph_energies g penalty) (graph_energy_cut g penalty).nodes
 
--- the nodes of a picture's component trees are the components of its pixels up to each sample, or from each on, each once
-abbrev pub HasComponents : Input → Type 0
-HasComponents (Edges graph) = Unit {0}
-HasComponents (Picture raster) =
-    (side : Side) → IsComponentTree side (value_at raster.samples) (graph_of (Picture raster)).n (ranked (graph_of (Picture raster))) (picture_components side raster)
+-- the nodes of a picture's component tree are the components of its pixels up to each sample, or from each on, each once
+abbrev pub HasComponentsOf : Side → Input → Type 0
+HasComponentsOf side (Edges graph) = Unit {0}
+HasComponentsOf side (Picture raster) =
+    IsComponentTree side (value_at raster.samples) (graph_of (Picture raster)).n (ranked (graph_of (Picture raster))) (picture_components side raster)
+
+-- the same of the component tree of a side that is reported, if one is
+abbrev pub HasComponents : Option Side → Input → Type 0
+HasComponents None input = Unit {0}
+HasComponents (Some side) input = HasComponentsOf side input
 
 -- The words gave a request, its input is accepted, and this was done with exactly the report that was asked for.
 pub record Reports (words : List (List ℕ)) (old new : Option (List ℕ)) (Done : List ℕ → Type 0) : Type 0 where
@@ -152,7 +157,7 @@ pub record Reports (words : List (List ℕ)) (old new : Option (List ℕ)) (Done
   pub accepted : refusal request input ≡ None
   pub done : Done (report_of request input)
   pub hierarchy : IsHierarchy (graph_of input)
-  pub components : HasComponents input
+  pub components : HasComponents (component_side request.report) input
 
 -- this was done with exactly the report that was asked for, and the receipt is the one of its request and its input
 abbrev pub ReportsWith : List (List ℕ) → Option (List ℕ) → Option (List ℕ) → (List ℕ → Type 0) → ReceiptState → Type 0
@@ -163,7 +168,7 @@ pub record Writes (request : Request) (input : Input) (Done : List ℕ → Type 
   pub accepted : refusal request input ≡ None
   pub done : Done (report_of request input)
   pub hierarchy : IsHierarchy (graph_of input)
-  pub components : HasComponents input
+  pub components : HasComponents (component_side request.report) input
 
 -- how the making and the writing of a report left the sink
 abbrev pub EndsWriting : Request → Input → Told → Told → Result ReceiptState Status → Type 0

@@ -1,17 +1,25 @@
 // The component trees of a picture.
-ghost use Rattle.std.specs.Prelude.{◌≡◌, Some, IfOk};
+ghost use Rattle.std.specs.Prelude.{◌≡◌, Some, IfOk, length};
+ghost use Rattle.component_tree.specs.Components.{IsComponentTree};
+ghost use Rattle.component_tree.specs.MinTree.{component_tree_of, value_at};
+ghost use Rattle.component_tree.specs.Report.{components_report};
+ghost use Rattle.component_tree.specs.Weighed.{weighed_graph};
+ghost use Rattle.hg_base.specs.Rank.{ranked};
 ghost use Rattle.higra_cli.specs.Inputs.{graph_of};
 ghost use Rattle.higra_cli.specs.Reports.{IsReportIn, component_side, receipt_of};
+ghost use Rattle.higra_cli.specs.Ordered.{IsTreeOf};
 ghost use Rattle.higra_cli.specs.Running.{CanReport, HasComponents, IsHierarchy};
 
 use super::input::Input;
 use super::merging::tree_of;
 use super::planning::plan_pixels;
-use super::request::{Report, Request};
+use super::request::{Form, Report, Request};
+use super::texts::one_piece;
 use super::writing::RunFault;
-use component_tree::{Side, Values, component_tree, components_pieces, weighed};
-use hg_base::{FaultKind, Gate, InputFault, OutOfMemory};
+use component_tree::{Side, Values, component_tree, weighed, write_components};
+use hg_base::{FaultKind, Gate, Graph, InputFault, OutOfMemory};
 use merge_board::Receipt;
+use partition_tree::Tree;
 use pgm_reader::{Picture, graph_of};
 use report_lines::Pieces;
 use std::alloc::{AllocError, Global};
@@ -33,6 +41,7 @@ pub(crate) fn component_side(report: Report) -> Option<Side>
 ///
 /// The input's fault is NotAPicture exactly where it is an edge list; else TooManyTiles exactly where there are more than
 /// 65,536 tiles. Memory may run out.
+#[tactic(auto, using(crate::proofs::ComponentLemmas::edges_refused))]
 pub(crate) fn components_about<G: Gate>(
     rt: &(impl Threads + Sync),
     alloc: Global,
@@ -46,7 +55,7 @@ pub(crate) fn components_about<G: Gate>(
     ensures text { IsReportIn Form.Text request.now.tile request.now.report input.now result }
     ensures receipt { IfOk result (λ made. made.1 ≡ receipt_of request.now input.now) }
     ensures hierarchy { IfOk result (λ _. IsHierarchy (graph_of input.now)) }
-    ensures components { IfOk result (λ _. HasComponents input.now) }
+    ensures components { IfOk result (λ _. HasComponents (component_side request.now.report) input.now) }
 {
     match input {
         Input::Edges(_) => Err(RunFault::Input(InputFault {
@@ -59,6 +68,7 @@ pub(crate) fn components_about<G: Gate>(
 }
 
 // The same of a picture.
+#[tactic(auto, using(crate::proofs::ComponentLemmas::components_text_is, crate::proofs::ComponentLemmas::has_components, crate::proofs::ComponentLemmas::picture_accepted, crate::proofs::ComponentLemmas::weighed_pixels, crate::proofs::ComponentLemmas::weighed_edges, crate::proofs::PlanningLemmas::receipt_squares))]
 fn components_of<G: Gate>(
     rt: &(impl Threads + Sync),
     alloc: Global,
@@ -72,18 +82,41 @@ fn components_of<G: Gate>(
     ensures text { IsReportIn Form.Text request.now.tile request.now.report (Input.Picture picture.now) result }
     ensures receipt { IfOk result (λ made. made.1 ≡ receipt_of request.now (Input.Picture picture.now)) }
     ensures hierarchy { IfOk result (λ _. IsHierarchy (graph_of (Input.Picture picture.now))) }
-    ensures components { IfOk result (λ _. HasComponents (Input.Picture picture.now)) }
+    ensures components { IfOk result (λ _. HasComponents (component_side request.now.report) (Input.Picture picture.now)) }
 {
     let values = values_of(alloc, picture)?;
     let graph = graph_of(rt, alloc, picture)?;
     let weighed = weighed(alloc, &graph, &values, side)?;
     let planned = plan_pixels(rt, alloc, picture, &weighed, request.tile)?;
-    let (tree, receipt) = tree_of(rt, alloc, &planned, request.workers, gate)?;
-    let components = component_tree(alloc, &values, side, &weighed, &tree)?;
-    Ok((components_pieces(rt, alloc, &components, side)?, receipt))
+    let (tree, receipt) = tree_of(rt, alloc, &weighed, &planned, request.workers, gate)?;
+    let pieces = components_text(alloc, side, &values, &graph, &weighed, &tree)?;
+    Ok((pieces, receipt))
+}
+
+// The text of the component tree of a graph's vertices by their values, from the tree of the graph that was weighed.
+fn components_text(
+    alloc: Global,
+    side: Side,
+    values: &Values,
+    graph: &Graph,
+    weighed: &Graph,
+    tree: &Tree,
+) -> Result<Pieces, OutOfMemory>
+    requires values { length values.now ≡ graph.now.n }
+    requires weighed { weighed.now ≡ weighed_graph side values.now graph.now }
+    requires tree { IsTreeOf weighed.now tree.now }
+    ensures text { IfOk result (λ pieces. pieces ≡ components_report side (component_tree_of side values.now graph.now)) }
+    ensures components { IfOk result (λ _. IsComponentTree side (value_at values.now) graph.now.n (ranked graph.now) (component_tree_of side values.now graph.now)) }
+    ensures hierarchy { IfOk result (λ _. IsHierarchy graph.now) }
+{
+    // That the graph keeps to its limits.
+    let _ = graph.n();
+    let components = component_tree(alloc, values, side, weighed, tree)?;
+    one_piece(alloc, write_components(alloc, &components, side)?)
 }
 
 // The samples of a picture as values of its pixels.
+#[tactic(auto, using(crate::proofs::EnergyLemmas::areas_more))]
 fn values_of(alloc: Global, picture: &Picture) -> Result<Values, AllocError>
     ensures { IfOk result (λ values. values ≡ picture.now.samples) }
 {

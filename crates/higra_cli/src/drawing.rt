@@ -1,15 +1,13 @@
 // Drawing a report as a picture.
 ghost use Rattle.std.specs.Prelude.{◌≡◌, ◌*◌, true, IfOk, length};
 ghost use Rattle.edge_order.specs.Order.{order_of};
-ghost use Rattle.hg_base.specs.Labels.{labelling};
-ghost use Rattle.hg_base.specs.Levels.{AltitudesRise, shares};
 ghost use Rattle.hg_base.specs.Tree.{graph_tree};
 ghost use Rattle.pgm_reader.specs.Grid as grid;
 ghost use Rattle.watershed_cut.specs.Watershed.{watershed_of};
 ghost use Rattle.higra_cli.specs.Drawing.{AreDrawn, IsDrawn};
 ghost use Rattle.higra_cli.specs.Inputs.{graph_of};
 ghost use Rattle.higra_cli.specs.Ordered.{IsTreeOf};
-ghost use Rattle.higra_cli.specs.Reports.{IsReportIn, graph_energy_cut, labels_of, receipt_of};
+ghost use Rattle.higra_cli.specs.Reports.{IsReportIn, component_side, cut_tree, graph_energy_cut, labels_of, receipt_of, regions};
 ghost use Rattle.higra_cli.specs.Request.{can_be_drawn};
 ghost use Rattle.higra_cli.specs.Running.{CanReport, HasComponents, IsHierarchy};
 
@@ -21,6 +19,7 @@ use super::request::{Form, Report, Request};
 use super::writing::RunFault;
 use edge_order::Order;
 use energy_cut::least_cut;
+use extinction::Kind;
 use hg_base::{FaultKind, Gate, Graph, InputFault, Labels};
 use label_writer::{LabelFault, write_pgm};
 use merge_board::Receipt;
@@ -55,7 +54,7 @@ pub(crate) fn picture_about<G: Gate>(
     ensures picture { IsReportIn Form.Pgm request.now.tile request.now.report input.now result }
     ensures receipt { IfOk result (λ made. made.1 ≡ receipt_of request.now input.now) }
     ensures hierarchy { IfOk result (λ _. IsHierarchy (graph_of input.now)) }
-    ensures components { IfOk result (λ _. HasComponents input.now) }
+    ensures components { IfOk result (λ _. HasComponents (component_side request.now.report) input.now) }
 {
     match input {
         Input::Edges(_) => Err(RunFault::Input(NOT_A_PICTURE)),
@@ -64,7 +63,7 @@ pub(crate) fn picture_about<G: Gate>(
 }
 
 // The picture of a report about a picture, and the receipt.
-#[tactic(auto, using(crate::proofs::PlanningLemmas::plan_is_over))]
+#[tactic(auto, using(crate::proofs::PlanningLemmas::pixels_in, crate::proofs::DrawingLemmas::drawn_alone))]
 fn drawing<G: Gate>(
     rt: &(impl Threads + Sync),
     alloc: Global,
@@ -77,18 +76,17 @@ fn drawing<G: Gate>(
     ensures picture { IsReportIn Form.Pgm request.now.tile request.now.report (Input.Picture picture.now) result }
     ensures receipt { IfOk result (λ made. made.1 ≡ receipt_of request.now (Input.Picture picture.now)) }
     ensures hierarchy { IfOk result (λ _. IsHierarchy (graph_of (Input.Picture picture.now))) }
-    ensures components { IfOk result (λ _. HasComponents (Input.Picture picture.now)) }
+    ensures components { IfOk result (λ _. HasComponents (component_side request.now.report) (Input.Picture picture.now)) }
 {
     let graph = graph_of(rt, alloc, picture)?;
     let planned = plan_pixels(rt, alloc, picture, &graph, request.tile)?;
-    let (tree, receipt) = tree_of(rt, alloc, &planned, request.workers, gate)?;
+    let (tree, receipt) = tree_of(rt, alloc, &graph, &planned, request.workers, gate)?;
     let report = request.report;
     let pieces = draw_report(alloc, report, &graph, &planned.order, &tree, picture)?;
     Ok((pieces, receipt))
 }
 
 // The picture of the labels of a report about a picture, whose graph, order and tree these are.
-#[tactic(auto, using(crate::proofs::DrawingLemmas::region_labels))]
 fn draw_report(
     alloc: Global,
     report: Report,
@@ -106,7 +104,7 @@ fn draw_report(
     match report {
         Report::Watershed => draw_watershed(alloc, graph, order, tree, picture),
         Report::Cut(kind, level) => {
-            draw(alloc, &regions(alloc, graph, order, tree, kind, level)?, picture)
+            draw_regions(alloc, graph, order, tree, kind, level, picture)
         }
         Report::Energy(penalty) => draw_energy_cut(alloc, graph, tree, penalty, picture),
         Report::Tree
@@ -119,6 +117,26 @@ fn draw_report(
         | Report::Mintree
         | Report::Maxtree => unreachable!(),
     }
+}
+
+// The picture of the labels of the regions at a level.
+#[tactic(auto, using(crate::proofs::DrawingLemmas::region_pixels))]
+fn draw_regions(
+    alloc: Global,
+    graph: &Graph,
+    order: &Order,
+    tree: &Tree,
+    kind: Option<Kind>,
+    level: u64,
+    picture: &Picture,
+) -> Result<Pieces, RunFault>
+    requires graph { graph.now ≡ grid.graph_of picture.now }
+    requires order { order.now ≡ order_of graph.now }
+    requires tree { IsTreeOf graph.now tree.now }
+    ensures { IsDrawn (regions (cut_tree kind graph.now) level) picture.now result }
+{
+    let labels = regions(alloc, graph, order, tree, kind, level)?;
+    draw(alloc, &labels, picture)
 }
 
 // The picture of the labels of the watershed cut of a picture, whose graph, order and tree these are.
@@ -140,6 +158,7 @@ fn draw_watershed(
 }
 
 // The picture of the labels of the least cut of a picture's graph, with a penalty for each region.
+#[tactic(auto, using(crate::proofs::DrawingLemmas::energy_pixels, crate::proofs::EnergyLemmas::least_cut_is))]
 fn draw_energy_cut(
     alloc: Global,
     graph: &Graph,

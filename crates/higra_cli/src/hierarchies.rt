@@ -64,6 +64,7 @@ impl Basins {
 }
 
 /// The labels of the regions of a graph's own tree, or of its hierarchical watershed by a kind, at a level.
+#[tactic(auto, using(crate::proofs::CutLemmas::regions_own, crate::proofs::CutLemmas::regions_by))]
 pub(crate) fn regions(
     alloc: Global,
     graph: &Graph,
@@ -87,6 +88,7 @@ pub(crate) fn regions(
 }
 
 /// The energies of the nodes of a graph's tree, with a penalty for each region.
+#[tactic(auto, using(crate::proofs::EnergyLemmas::altitudes_low, crate::proofs::EnergyLemmas::areas_each, crate::proofs::EnergyLemmas::areas_small, crate::proofs::EnergyLemmas::energies_made, crate::proofs::EnergyLemmas::energies_each))]
 pub(crate) fn energies(
     alloc: Global,
     graph: &Graph,
@@ -98,19 +100,35 @@ pub(crate) fn energies(
     ensures one_each { IfOk result (λ energies. length energies.items ≡ nodes tree.now) }
     ensures below { IfOk result (λ energies. All (λ e. e < 2 ^ 65) energies.items) }
 {
+    read_weights(graph);
     let attributes = Attributes::of(alloc, graph, tree)?;
-    let areas = areas_of(alloc, &attributes).map_err(|_| OutOfMemory)?;
+    let areas = areas_of(alloc, tree, &attributes).map_err(|_| OutOfMemory)?;
     node_energies(alloc, tree, &areas, penalty)
 }
 
-// The areas of the nodes, one by one.
-fn areas_of(alloc: Global, attributes: &Attributes) -> Result<Vec<u64>, AllocError>
+// The areas of the nodes of a tree.
+#[tactic(auto, using(crate::proofs::EnergyLemmas::areas_more))]
+fn areas_of(
+    alloc: Global,
+    tree: &Tree,
+    attributes: &Attributes,
+) -> Result<Vec<u64>, AllocError>
+    requires { length attributes.now.areas ≡ nodes tree.now }
     ensures { IfOk result (λ areas. areas.items ≡ attributes.now.areas) }
 {
-    let nodes = attributes.nodes();
+    let nodes = tree.nodes();
     let mut areas = Vec::with_capacity(alloc, nodes as usize)?;
     for i in 0..nodes {
         areas.push(attributes.area(i))?;
     }
     Ok(areas)
+}
+
+// Reads each edge: its weight is a number of 32 bits.
+fn read_weights(graph: &Graph)
+    ensures { All (λ e. e.w < 2 ^ 32) graph.now.edges }
+{
+    for e in 0..graph.m() {
+        let _ = graph.edge(e);
+    }
 }

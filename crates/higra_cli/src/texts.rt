@@ -26,8 +26,8 @@ use super::request::Report;
 use super::summary::{summary_of, summary_pieces};
 use attributes::{Attributes, attributes_pieces};
 use edge_order::Order;
-use energy_cut::{energy_pieces, least_cut};
-use extinction::{Kind, extinctions, hierarchical_pieces};
+use energy_cut::{least_cut, write_energy};
+use extinction::{Kind, extinctions, write_hierarchical};
 use forest_witness::witness;
 use hg_base::{Graph, OutOfMemory};
 use label_writer::labels_pieces;
@@ -57,7 +57,7 @@ pub(crate) fn text_of(
 {
     match report {
         Report::Tree => tree_pieces(rt, alloc, tree),
-        Report::Zones => tree_pieces(rt, alloc, &zones(alloc, tree)?),
+        Report::Zones => zones_text(rt, alloc, graph, tree),
         Report::Saliency => saliency_pieces(rt, alloc, &saliency(alloc, graph, tree)?),
         Report::Attributes => {
             attributes_pieces(rt, alloc, &Attributes::of(alloc, graph, tree)?)
@@ -70,6 +70,21 @@ pub(crate) fn text_of(
         Report::Mintree | Report::Maxtree => Ok(Pieces::new(alloc)),
         Report::Energy(penalty) => energy_text(rt, alloc, graph, tree, penalty),
     }
+}
+
+// The text of the zones of a graph's tree.
+#[tactic(auto, using(crate::proofs::CutLemmas::zones_are))]
+fn zones_text(
+    rt: &(impl Threads + Sync),
+    alloc: Global,
+    graph: &Graph,
+    tree: &Tree,
+) -> Result<Pieces, OutOfMemory>
+    requires { IsTreeOf graph.now tree.now }
+    ensures { IfOk result (λ text. text ≡ tree_report (zones_of (graph_tree graph.now))) }
+{
+    let _ = graph;
+    tree_pieces(rt, alloc, &zones(alloc, tree)?)
 }
 
 // The text of the watershed cut.
@@ -106,7 +121,7 @@ fn hierarchical_text(
     let basins = Basins::of(alloc, graph, order, tree)?;
     let values = extinctions(alloc, tree, &basins.attributes, &basins.minima, kind)?;
     let hierarchy = basins.hierarchy(alloc, graph, tree, kind)?;
-    hierarchical_pieces(rt, alloc, &hierarchy, &values)
+    one_piece(alloc, write_hierarchical(alloc, &hierarchy, &values)?)
 }
 
 // The text of the regions of a tree at a level.
@@ -127,6 +142,7 @@ fn regions_text(
 }
 
 // The text of the least cut with a penalty for each region.
+#[tactic(auto, using(crate::proofs::EnergyLemmas::least_cut_is))]
 fn energy_text(
     rt: &(impl Threads + Sync),
     alloc: Global,
@@ -139,5 +155,12 @@ fn energy_text(
 {
     let energies = energies(alloc, graph, tree, penalty)?;
     let cut = least_cut(alloc, tree, &energies)?;
-    energy_pieces(rt, alloc, &cut, &energies)
+    one_piece(alloc, write_energy(alloc, &cut, &energies)?)
+}
+
+/// A text in one piece. The error is want of memory.
+pub(crate) fn one_piece(alloc: Global, text: Vec<u8>) -> Result<Pieces, OutOfMemory>
+    ensures { IfOk result (λ pieces. pieces ≡ text.items) }
+{
+    Pieces::of(alloc, text).map_err(|_| OutOfMemory)
 }

@@ -69,7 +69,7 @@ pub fn report<G: Gate>(
     ensures report { IsReport request.now input.now result }
     ensures receipt { IfOk result (λ made. made.1 ≡ receipt_of request.now input.now) }
     ensures hierarchy { IfOk result (λ _. IsHierarchy (graph_of input.now)) }
-    ensures components { IfOk result (λ _. HasComponents input.now) }
+    ensures components { IfOk result (λ _. HasComponents (component_side request.now.report) input.now) }
 {
     let (pieces, receipt) = report_in_pieces(rt, alloc, request, input, gate)?;
     Ok((pieces.joined(alloc)?, receipt))
@@ -87,7 +87,7 @@ pub(crate) fn report_in_pieces<G: Gate>(
     ensures report { IsReportIn request.now.form request.now.tile request.now.report input.now result }
     ensures receipt { IfOk result (λ made. made.1 ≡ receipt_of request.now input.now) }
     ensures hierarchy { IfOk result (λ _. IsHierarchy (graph_of input.now)) }
-    ensures components { IfOk result (λ _. HasComponents input.now) }
+    ensures components { IfOk result (λ _. HasComponents (component_side request.now.report) input.now) }
 {
     match request.form {
         Form::Text => text_about(rt, alloc, request, input, gate),
@@ -107,7 +107,7 @@ fn text_about<G: Gate>(
     ensures text { IsReportIn Form.Text request.now.tile request.now.report input.now result }
     ensures receipt { IfOk result (λ made. made.1 ≡ receipt_of request.now input.now) }
     ensures hierarchy { IfOk result (λ _. IsHierarchy (graph_of input.now)) }
-    ensures components { IfOk result (λ _. HasComponents input.now) }
+    ensures components { IfOk result (λ _. HasComponents (component_side request.now.report) input.now) }
 {
     match component_side(request.report) {
         Some(side) => components_about(rt, alloc, request, side, input, gate),
@@ -116,7 +116,7 @@ fn text_about<G: Gate>(
 }
 
 // The text of a report about the graph of an input, and the receipt.
-#[tactic(auto, using(crate::proofs::PlanningLemmas::before_none, crate::proofs::PlanningLemmas::before_some, crate::proofs::PlanningLemmas::plan_is_over, crate::proofs::PlanningLemmas::receipt_is))]
+#[tactic(auto, using(crate::proofs::ComponentLemmas::graph_accepted, crate::proofs::ComponentLemmas::graph_refused, crate::proofs::ComponentLemmas::graph_text, crate::proofs::ComponentLemmas::no_components, crate::proofs::PlanningLemmas::receipt_blocks, crate::proofs::PlanningLemmas::receipt_squares, crate::proofs::PlanningLemmas::pixels_in, crate::proofs::PlanningLemmas::edges_in))]
 fn text_about_graph<G: Gate>(
     rt: &(impl Threads + Sync),
     alloc: Global,
@@ -129,7 +129,7 @@ fn text_about_graph<G: Gate>(
     ensures text { IsReportIn Form.Text request.now.tile request.now.report input.now result }
     ensures receipt { IfOk result (λ made. made.1 ≡ receipt_of request.now input.now) }
     ensures hierarchy { IfOk result (λ _. IsHierarchy (graph_of input.now)) }
-    ensures components { IfOk result (λ _. HasComponents input.now) }
+    ensures components { IfOk result (λ _. HasComponents (component_side request.now.report) input.now) }
 {
     match input {
         Input::Edges(graph) => {
@@ -159,7 +159,7 @@ fn text<G: Gate>(
     ensures receipt { IfOk result (λ made. made.1 ≡ receipt_over planned.now.plan request.now.workers) }
     ensures hierarchy { IfOk result (λ _. IsHierarchy graph.now) }
 {
-    let (tree, receipt) = tree_of(rt, alloc, planned, request.workers, gate)?;
+    let (tree, receipt) = tree_of(rt, alloc, graph, planned, request.workers, gate)?;
     let text = text_of(rt, alloc, request.report, graph, &planned.order, &tree)?;
     Ok((text, receipt))
 }

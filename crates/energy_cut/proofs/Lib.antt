@@ -1,0 +1,13 @@
+pub mod Totals
+pub mod Lists
+pub mod Covers
+pub mod Balance
+pub mod Best
+pub mod Listed
+pub mod Gathering
+pub mod Sending
+pub mod Tops
+pub mod Chosen
+pub mod Sums
+pub mod Made
+pub mod TestForest

@@ -1,0 +1,15 @@
+pub mod SideLemmas
+pub mod TreeFacts
+pub mod HoldLemmas
+pub mod SurvivorLemmas
+pub mod Bottoms
+pub mod NodeLabels
+pub mod Worth
+pub mod Turns
+pub mod ByPersistence
+pub mod LevelZero
+pub mod PairLemmas
+pub mod OwnLemmas
+pub mod SurvivorPasses
+pub mod OneGraph
+pub mod HierarchyLemmas

@@ -1,0 +1,16 @@
+use Rattle.std.proofs.Common.{◌≡◌, ℕ, List, ◌++◌, ◌∙◌, ap, arith, length, take, drop}
+use Rattle.partition_tree.proofs.CellLemmas.{written-back}
+use Rattle.extinction.specs.Values.{values_of}
+use Rattle.extinction.proofs.OneGraph.{extinctions-graph}
+use Rattle.extinction.proofs.SurvivorPasses.{deaths-all}
+use Rattle.extinction.proofs.deaths.by_survivors.Goals as goal
+
+pub returns : goal.returns
+returns c = λ g o.
+    let t = c.args.tree.now in
+    let m = c.args.minima.now in
+    let values = values_of c.args.kind c.args.attributes.now in
+    let noted = c.note_deaths.new.values in
+    written-back noted _ c.in_ok-values.values.len (omega (arith, c.note_deaths.ensures.one_each, c.in_ok-values.ensures.len, c.count.ensures))
+    ∙ deaths-all t m values c.in_ok-survivors.survivors.labels.items noted c.in_ok-survivors.ensures.labels_are c.note_deaths.ensures
+    ∙ extinctions-graph g t c.args.attributes.now m c.args.kind o

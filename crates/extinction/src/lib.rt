@@ -1,0 +1,25 @@
+//! Persistences of a tree's nodes, extinctions of minima, and the hierarchical watershed of a graph.
+#![tactic(auto)]
+
+mod deaths;
+mod hierarchy;
+mod kind;
+mod laws;
+mod lowest;
+mod pairs;
+mod persist;
+mod report;
+mod survive;
+
+pub use deaths::extinctions;
+pub use hierarchy::hierarchical;
+pub use kind::Kind;
+pub use laws::{
+    children_are_two, hierarchy_is_a_forest, holding_by_paths, level_zero_is_the_watershed,
+    survivors_live_on,
+};
+pub use persist::persistence;
+pub use report::{hierarchical_pieces, write_hierarchical};
+
+#[cfg(test)]
+mod tests;

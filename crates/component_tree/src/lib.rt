@@ -18,3 +18,6 @@ pub use side::Side;
 pub use tree::ComponentTree;
 pub use values::Values;
 pub use weights::weighed;
+
+#[cfg(test)]
+mod tests;

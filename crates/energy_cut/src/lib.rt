@@ -12,7 +12,7 @@ pub use energies::node_energies;
 pub use laws::{
     cuts_are_listed, energies_fit, least_cut_is_one, nodes_have_leaves, regions_by_nodes,
 };
-pub use report::write_energy;
+pub use report::{energy_pieces, write_energy};
 
 #[cfg(test)]
 mod tests;

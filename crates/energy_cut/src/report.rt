@@ -1,12 +1,14 @@
-ghost use Rattle.std.specs.Prelude.{◌≡◌, ◌<◌, ◌++◌, All, codes, decimal, length, IfOk, OnOk};
-ghost use Rattle.std.specs.List.{range_with_len, flat_map};
+ghost use Rattle.std.specs.Prelude.{◌≡◌, ◌<◌, [], ◌∷◌, ◌++◌, All, codes, decimal, length, IfOk, OnOk};
+ghost use Rattle.std.specs.List.{flat_map};
 ghost use Rattle.hg_base.specs.Text.{line, headed_line};
 ghost use Rattle.energy_cut.specs.Report.{node_line, vertex_line, energy_report};
 
 use crate::cuts::EnergyCut;
-use hg_base::{Labels, OutOfMemory, push_headed_line};
+use hg_base::{Labels, OutOfMemory};
 use itoa::Buffer;
+use report_lines::{LineWriter, Lines, Pieces};
 use std::alloc::{AllocError, Global};
+use std::thread::Threads;
 
 // The room for a vertex's line: a letter and two numbers of at most 7 digits.
 const VERTEX_LINE: usize = 18;
@@ -28,17 +30,91 @@ fn written(alloc: Global, cut: &EnergyCut, energies: &[u128]) -> Result<Vec<u8>,
     requires { All (λ i. i < length energies.now) cut.now.nodes }
     ensures { IfOk result (λ text. text.items ≡ energy_report cut.now energies.now) }
 {
+    let mut text = nodes_text(alloc, cut, energies)?;
+    let mut vertices = LineWriter::new(alloc);
+    vertices.push_lines(&VertexLines {
+        labels: cut.labels(),
+    })?;
+    text.extend_from_slice(&vertices.into_text())?;
+    Ok(text)
+}
+
+/// The same report in pieces, which threads of their own make where there are many vertices.
+pub fn energy_pieces(
+    rt: &(impl Threads + Sync),
+    alloc: Global,
+    cut: &EnergyCut,
+    energies: &[u128],
+) -> Result<Pieces, OutOfMemory>
+    requires { All (λ i. i < length energies.now) cut.now.nodes }
+    ensures { IfOk result (λ pieces. pieces ≡ energy_report cut.now energies.now) }
+{
+    in_pieces(rt, alloc, cut, energies).map_err(|_| OutOfMemory)
+}
+
+fn in_pieces(
+    rt: &(impl Threads + Sync),
+    alloc: Global,
+    cut: &EnergyCut,
+    energies: &[u128],
+) -> Result<Pieces, AllocError>
+    requires { All (λ i. i < length energies.now) cut.now.nodes }
+    ensures { IfOk result (λ pieces. pieces ≡ energy_report cut.now energies.now) }
+{
+    let mut pieces = Pieces::of(alloc, nodes_text(alloc, cut, energies)?)?;
+    pieces.push_lines(
+        rt,
+        alloc,
+        &VertexLines {
+            labels: cut.labels(),
+        },
+    )?;
+    Ok(pieces)
+}
+
+// The line of the report, and one for each node of the cut.
+fn nodes_text(alloc: Global, cut: &EnergyCut, energies: &[u128]) -> Result<Vec<u8>, AllocError>
+    requires { All (λ i. i < length energies.now) cut.now.nodes }
+    ensures { IfOk result (λ text. text.items ≡ headed_line (codes "energy") (length cut.now.labels.labels ∷ cut.now.labels.count ∷ cut.now.sum ∷ []) ++ flat_map (node_line energies.now) cut.now.nodes) }
+{
     let labels = cut.labels();
     let sizes = [
         u128::from(labels.len()),
         u128::from(labels.count()),
         cut.sum(),
     ];
-    let mut text = Vec::with_capacity(alloc, VERTEX_LINE * labels.len() as usize)?;
+    let mut text = Vec::new(alloc);
     push_wide_line(&mut text, "energy", &sizes)?;
     push_nodes(&mut text, cut.nodes(), energies)?;
-    push_vertices(&mut text, labels)?;
     Ok(text)
+}
+
+// A line for each vertex: its number and its label.
+#[derive(Clone, Copy)]
+struct VertexLines<'a> {
+    labels: &'a Labels,
+}
+
+impl Lines for VertexLines<'_> {
+    ghost count = { λ lines. length lines.labels.now.labels };
+
+    ghost line = { λ lines i. vertex_line lines.labels.now.labels i };
+
+    fn len(&self) -> usize {
+        self.labels.len() as usize
+    }
+
+    fn room(&self) -> usize {
+        VERTEX_LINE
+    }
+
+    #[tactic(auto, using(std::proofs::lemmas::Option::get_or_from_slice_get))]
+    fn write(&self, text: &mut LineWriter, i: usize) -> Result<(), AllocError> {
+        let vertices = self.labels.len() as usize;
+        prove!(i < vertices);
+        let label = self.labels.label(i as u32);
+        text.push_headed_line("v", &[i as u64, u64::from(label)])
+    }
 }
 
 // Appends a line for each node with its energy.
@@ -48,16 +124,6 @@ fn push_nodes(text: &mut Vec<u8>, nodes: &[u32], energies: &[u128]) -> Result<()
 {
     for i in nodes {
         push_wide_line(text, "node", &[u128::from(*i), energies[*i as usize]])?;
-    }
-    Ok(())
-}
-
-// Appends a line for each vertex with its label.
-fn push_vertices(text: &mut Vec<u8>, labels: &Labels) -> Result<(), AllocError>
-    ensures { OnOk result (text.new.items ≡ text.old.items ++ flat_map (vertex_line labels.now.labels) (range_with_len 0 (length labels.now.labels))) }
-{
-    for x in 0..labels.len() {
-        push_headed_line(text, "v", &[u64::from(x), u64::from(labels.label(x))])?;
     }
     Ok(())
 }

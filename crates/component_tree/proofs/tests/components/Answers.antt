@@ -1,7 +1,12 @@
-use Rattle.std.proofs.Common.{◌≡◌, ℕ, sym, ◌∙◌, ap, List, length, map}
-use Rattle.hg_base.specs.Graph.{WeightedGraph, with_unit_areas}
-use Rattle.hg_base.specs.Worked.{edge}
-use Rattle.hg_base.specs.Rank.{ranked}
+use Rattle.std.proofs.Common.{ℕ, sym, ◌∙◌, ap, List, length}
 use Rattle.hg_base.specs.Tree.{tree_of, graph_tree}
 use Rattle.component_tree.specs.Weighed.{weighed_graph}
 use Rattle.component_tree.proofs.tests.components.Goals as goal
+
+pub component_tree-requires-clause-tree : goal.component_tree-requires-clause-tree
+component_tree-requires-clause-tree g c =
+    let weighed =
+    c.in_ok-weighed.ensures
+    ∙ ap (λ (v : List ℕ). weighed_graph c.args.side v c.in_ok-graph.graph) (c.new-values.ensures ∙ c.in_ok-from_slice.ensures.items)
+    ∙ ap (weighed_graph c.args.side c.args.samples.now) c.in_ok-graph.ensures in
+    c.in_ok-tree.ensures.tree ∙ ap (tree_of (length c.args.samples.now)) c.requires.ranked ∙ sym (ap graph_tree weighed)

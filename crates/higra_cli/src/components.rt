@@ -14,7 +14,6 @@ use super::input::Input;
 use super::merging::tree_of;
 use super::planning::plan_pixels;
 use super::request::{Form, Report, Request};
-use super::texts::one_piece;
 use super::writing::RunFault;
 use component_tree::{Side, Values, component_tree, weighed, write_components};
 use hg_base::{FaultKind, Gate, Graph, InputFault, OutOfMemory};
@@ -126,4 +125,11 @@ fn values_of(alloc: Global, picture: &Picture) -> Result<Values, AllocError>
         values.push(u32::from(picture.sample(i)))?;
     }
     Ok(Values::new(values))
+}
+
+// A text in one piece.
+fn one_piece(alloc: Global, text: Vec<u8>) -> Result<Pieces, OutOfMemory>
+    ensures { IfOk result (λ pieces. pieces ≡ text.items) }
+{
+    Pieces::of(alloc, text).map_err(|_| OutOfMemory)
 }

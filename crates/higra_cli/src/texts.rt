@@ -26,8 +26,8 @@ use super::request::Report;
 use super::summary::{summary_of, summary_pieces};
 use attributes::{Attributes, attributes_pieces};
 use edge_order::Order;
-use energy_cut::{least_cut, write_energy};
-use extinction::{Kind, extinctions, write_hierarchical};
+use energy_cut::{energy_pieces, least_cut};
+use extinction::{Kind, extinctions, hierarchical_pieces};
 use forest_witness::witness;
 use hg_base::{Graph, OutOfMemory};
 use label_writer::labels_pieces;
@@ -121,7 +121,7 @@ fn hierarchical_text(
     let basins = Basins::of(alloc, graph, order, tree)?;
     let values = extinctions(alloc, tree, &basins.attributes, &basins.minima, kind)?;
     let hierarchy = basins.hierarchy(alloc, graph, tree, kind)?;
-    one_piece(alloc, write_hierarchical(alloc, &hierarchy, &values)?)
+    hierarchical_pieces(rt, alloc, &hierarchy, &values)
 }
 
 // The text of the regions of a tree at a level.
@@ -155,12 +155,5 @@ fn energy_text(
 {
     let energies = energies(alloc, graph, tree, penalty)?;
     let cut = least_cut(alloc, tree, &energies)?;
-    one_piece(alloc, write_energy(alloc, &cut, &energies)?)
-}
-
-/// A text in one piece. The error is want of memory.
-pub(crate) fn one_piece(alloc: Global, text: Vec<u8>) -> Result<Pieces, OutOfMemory>
-    ensures { IfOk result (λ pieces. pieces ≡ text.items) }
-{
-    Pieces::of(alloc, text).map_err(|_| OutOfMemory)
+    energy_pieces(rt, alloc, &cut, &energies)
 }

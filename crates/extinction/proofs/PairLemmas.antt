@@ -1,6 +1,7 @@
 -- The pass that finds the two children of each inner node.
-use Rattle.std.proofs.Common.{◌≡◌, ◌≢◌, ℕ, zero, suc, ◌+◌, ◌-◌, ◌<◌, ◌≤◌, Bool, true, false, inl, inr, refl, sym, ◌∙◌, ap, subst, arith, List, [], ◌∷◌, length, get_or, set, replicate, add-one}
-use Rattle.std.proofs.lemmas.Bool.{cases_eq, both_ways}
+use Rattle.std.proofs.Common.{◌≡◌, ◌≢◌, ℕ, zero, suc, ◌+◌, ◌-◌, ◌<◌, ◌≤◌, Bool, true, false, inl, inr, refl, sym, ◌∙◌, ap, subst, arith, List, [], ◌∷◌, ◌++◌, length, get_or, set, take, add-one}
+use Rattle.std.proofs.Math.Seq.{take-append_seam}
+use Rattle.std.proofs.lemmas.Bool.{cases_eq}
 use Rattle.std.proofs.lemmas.List.{get_or-set_same, get_or-set_other, length-set, length-replicate}
 use Rattle.hg_base.specs.Edges.{count_below}
 use Rattle.hg_base.specs.Tree.{ParentTree, parent}
@@ -11,6 +12,10 @@ use Rattle.partition_tree.proofs.ChildLemmas.{count-same, child-is, child-not, c
 use Rattle.extinction.specs.Holding.{child}
 use Rattle.extinction.specs.Passes.{HasTwoEach, pair_of, AreChildPairs}
 use Rattle.extinction.proofs.HoldLemmas.{child-there}
+
+-- a slice that was written back into the list that it is the whole of
+pub written-back : {X : Type 0} (xs ys : List X) (n : ℕ) → length xs ≡ n → take n (xs ++ ys) ≡ xs
+written-back {X} xs ys n long = ap (λ (k : ℕ). take k (xs ++ ys)) (sym long) ∙ take-append_seam xs ys
 
 -- of the nodes before j, the last child of an inner node is the second of its pair, and the one before it the first
 pub record ArePairsTo (t : ParentTree) (j : ℕ) (pairs : List (ℕ × ℕ)) : Type 0 where

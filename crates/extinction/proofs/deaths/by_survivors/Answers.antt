@@ -1,5 +1,5 @@
 use Rattle.std.proofs.Common.{◌≡◌, ℕ, List, ◌++◌, ◌∙◌, ap, arith, length, take, drop}
-use Rattle.partition_tree.proofs.CellLemmas.{written-back}
+use Rattle.extinction.proofs.PairLemmas.{written-back}
 use Rattle.extinction.specs.Values.{values_of}
 use Rattle.extinction.proofs.OneGraph.{extinctions-graph}
 use Rattle.extinction.proofs.SurvivorPasses.{deaths-all}

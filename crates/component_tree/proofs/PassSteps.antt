@@ -91,10 +91,3 @@ last-of P (x ∷ xs) v all p (suc k) d lt = last-of P xs v (λ j e h. all (suc j
 
 pub all_next : {X : Type 0} (P : X → Type 0) (xs new : List X) (v : X) → All P xs → P v → new ≡ xs ++ v ∷ [] → All P new
 all_next {X} P xs new v all p pushed = subst (λ (l : List X). All P l) (sym pushed) (last-of P xs v all p)
-
--- a node's line is written
-pub line_more : (tree : ComponentLists) (head text new : List ℕ) (i a b d : ℕ) → text ≡ head ++ flat_map (component_line tree) (range_with_len 0 i) → new ≡ text ++ line (a ∷ b ∷ d ∷ []) → a ≡ i → b ≡ parent_of tree i → d ≡ level_of tree i →
-    new ≡ head ++ flat_map (component_line tree) (range_with_len 0 (i + 1))
-line_more tree head text new i a b d so_far pushed number above high =
-    let more = pieces_more (component_line tree) head i in
-    cc

@@ -13,7 +13,7 @@ mod weights;
 
 pub use components::component_tree;
 pub use laws::component_trees;
-pub use report::write_components;
+pub use report::{components_pieces, write_components};
 pub use side::Side;
 pub use tree::ComponentTree;
 pub use values::Values;

@@ -1,14 +1,14 @@
-ghost use Rattle.std.specs.Prelude.{◌≡◌, IfOk};
-ghost use Rattle.component_tree.specs.Report.{components_report, tree_word};
+ghost use Rattle.std.specs.Prelude.{◌≡◌, [], ◌∷◌, IfOk, length};
+ghost use Rattle.component_tree.specs.Report.{component_line, components_report, tree_word};
 
 use crate::side::Side;
 use crate::tree::ComponentTree;
-use hg_base::{OutOfMemory, push_headed_line, push_line};
+use hg_base::OutOfMemory;
+use report_lines::{LineWriter, Lines, Pieces, pieces_of, text_of};
 use std::alloc::{AllocError, Global};
+use std::thread::Threads;
 
-// The room for the first line, and for a node's line: three numbers of at most 7, 7 and 10 digits.
-const FIRST_LINE: usize = 24;
-
+// The room for a node's line: three numbers of at most 7, 7 and 10 digits.
 const NODE_LINE: usize = 27;
 
 /// The report of a component tree: `mintree NODES LEAVES` or `maxtree NODES LEAVES`, then for each node
@@ -20,7 +20,19 @@ pub fn write_components(
 ) -> Result<Vec<u8>, OutOfMemory>
     ensures { IfOk result (λ text. text.items ≡ components_report side tree.now) }
 {
-    written(alloc, tree, side).map_err(|_| OutOfMemory)
+    text_of(alloc, word(side), &sizes(tree), &ComponentLines { tree })
+}
+
+/// The same report in pieces, which threads of their own make where there are many nodes.
+pub fn components_pieces(
+    rt: &(impl Threads + Sync),
+    alloc: Global,
+    tree: &ComponentTree,
+    side: Side,
+) -> Result<Pieces, OutOfMemory>
+    ensures { IfOk result (λ pieces. pieces ≡ components_report side tree.now) }
+{
+    pieces_of(rt, alloc, word(side), &sizes(tree), &ComponentLines { tree })
 }
 
 // The word of the report.
@@ -33,17 +45,37 @@ fn word(side: Side) -> &'static str
     }
 }
 
-fn written(alloc: Global, tree: &ComponentTree, side: Side) -> Result<Vec<u8>, AllocError>
-    ensures { IfOk result (λ text. text.items ≡ components_report side tree.now) }
+// How many nodes and how many leaves there are.
+fn sizes(tree: &ComponentTree) -> [u64; 2]
+    ensures { result ≡ length tree.now.parents ∷ tree.now.leaves ∷ [] }
 {
-    let nodes = tree.nodes();
-    let mut text = Vec::with_capacity(alloc, FIRST_LINE + NODE_LINE * nodes as usize)?;
-    let sizes = [u64::from(nodes), u64::from(tree.leaves())];
-    push_headed_line(&mut text, word(side), &sizes)?;
-    for i in 0..nodes {
-        let parent = u64::from(tree.parent(i));
-        let level = u64::from(tree.level(i));
-        push_line(&mut text, &[u64::from(i), parent, level])?;
+    [u64::from(tree.nodes()), u64::from(tree.leaves())]
+}
+
+// A line for each node: its number, its parent and its level.
+#[derive(Clone, Copy)]
+struct ComponentLines<'a> {
+    tree: &'a ComponentTree,
+}
+
+impl Lines for ComponentLines<'_> {
+    ghost count = { λ lines. length lines.tree.now.parents };
+
+    ghost line = { λ lines i. component_line lines.tree.now i };
+
+    fn len(&self) -> usize {
+        self.tree.nodes() as usize
     }
-    Ok(text)
+
+    fn room(&self) -> usize {
+        NODE_LINE
+    }
+
+    fn write(&self, text: &mut LineWriter, i: usize) -> Result<(), AllocError> {
+        let nodes = self.tree.nodes() as usize;
+        prove!(i < nodes);
+        let node = i as u32;
+        let parent = u64::from(self.tree.parent(node));
+        text.push_line(&[i as u64, parent, u64::from(self.tree.level(node))])
+    }
 }

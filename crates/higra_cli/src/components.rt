@@ -15,7 +15,7 @@ use super::merging::tree_of;
 use super::planning::plan_pixels;
 use super::request::{Form, Report, Request};
 use super::writing::RunFault;
-use component_tree::{Side, Values, component_tree, weighed, write_components};
+use component_tree::{Side, Values, component_tree, components_pieces, weighed};
 use hg_base::{FaultKind, Gate, Graph, InputFault, OutOfMemory};
 use merge_board::Receipt;
 use partition_tree::Tree;
@@ -88,12 +88,13 @@ fn components_of<G: Gate>(
     let weighed = weighed(alloc, &graph, &values, side)?;
     let planned = plan_pixels(rt, alloc, picture, &weighed, request.tile)?;
     let (tree, receipt) = tree_of(rt, alloc, &weighed, &planned, request.workers, gate)?;
-    let pieces = components_text(alloc, side, &values, &graph, &weighed, &tree)?;
+    let pieces = components_text(rt, alloc, side, &values, &graph, &weighed, &tree)?;
     Ok((pieces, receipt))
 }
 
 // The text of the component tree of a graph's vertices by their values, from the tree of the graph that was weighed.
 fn components_text(
+    rt: &(impl Threads + Sync),
     alloc: Global,
     side: Side,
     values: &Values,
@@ -111,7 +112,7 @@ fn components_text(
     // That the graph keeps to its limits.
     let _ = graph.n();
     let components = component_tree(alloc, values, side, weighed, tree)?;
-    one_piece(alloc, write_components(alloc, &components, side)?)
+    components_pieces(rt, alloc, &components, side)
 }
 
 // The samples of a picture as values of its pixels.
@@ -125,11 +126,4 @@ fn values_of(alloc: Global, picture: &Picture) -> Result<Values, AllocError>
         values.push(u32::from(picture.sample(i)))?;
     }
     Ok(Values::new(values))
-}
-
-// A text in one piece.
-fn one_piece(alloc: Global, text: Vec<u8>) -> Result<Pieces, OutOfMemory>
-    ensures { IfOk result (λ pieces. pieces ≡ text.items) }
-{
-    Pieces::of(alloc, text).map_err(|_| OutOfMemory)
 }

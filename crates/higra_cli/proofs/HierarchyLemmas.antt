@@ -1,7 +1,7 @@
 -- What the definitions come to for every graph: the tree, the saliencies, the watershed cut, the hierarchical watersheds
 -- and the least cuts.
 use Rattle.std.proofs.Common.{◌≡◌, ℕ, ◌<◌, sym, ◌∙◌, arith}
-use Rattle.std.specs.Prelude.{◌↔◌, get_or}
+use Rattle.std.specs.Prelude.{◌↔◌, get_or, IfOk, Result, Ok, Err}
 use Rattle.std.proofs.lemmas.List.FromFn.{get_or-map-range_with_len}
 use Rattle.hg_base.specs.Graph.{WeightedGraph, IsGraph}
 use Rattle.hg_base.specs.Levels.{Shares}
@@ -44,3 +44,8 @@ hierarchy-is g is = record {
   hierarchies = begins-at g is;
   cuts = λ penalty. least-is (graph_tree g) (graph_energies g penalty) (graph-forest g is);
 }
+
+-- what holds holds where a call answers Ok
+pub where_ok : {T E : Type 0} (r : Result T E) (P : Type 0) → P → IfOk r (λ _. P)
+where_ok (Ok x) P p = p
+where_ok (Err e) P p = tt

@@ -40,7 +40,7 @@ squared g w h width height tile wide high = ap (λ (x : ℕ). squares g x h tile
 
 -- an order and a plan that were made
 pub planned_is : (g : WeightedGraph) (plan made : TilePlan) (planned : Planned) → planned.order ≡ order_of g → planned.plan ≡ made → IsAnswer plan (Ok made) → IsPlanOf g plan planned
-planned_is g plan made planned order own answer = record { order = order; plan = own ∙ answer.0; few = few_tiles _ answer.1 }
+planned_is g plan made planned order own answer = record { order = order; own = own ∙ answer.0; few = few_tiles _ answer.1 }
 
 -- a plan that couldn't be made
 pub plan_refused : (g : WeightedGraph) (plan : TilePlan) (why : PlanFault) (fault : RunFault) → IsAnswer plan (Err why) → fault ≡ run_fault why → IsPlanned g plan (Err fault)
@@ -51,11 +51,11 @@ plan_refused g plan plans.OutOfMemory fault answer is = subst (λ (f : RunFault)
 pub over_blocks : (g : WeightedGraph) (tile : ℕ) (planned : Planned) → IsPlanOf g (blocks g tile) planned → IsPlanOver g planned
 over_blocks g tile planned is =
     let one : g.n ≡ g.n * 1 = omega arith in
-    record { graph = is.order; plan = is.order ∙ ap (λ (n : ℕ). record { n = n; edges = ranked g }) one ∙ ap order_in (sym is.plan) }
+    record { graph = is.order; plan = is.order ∙ ap (λ (n : ℕ). record { n = n; edges = ranked g }) one ∙ ap order_in (sym is.own) }
 
 pub over_squares : (g : WeightedGraph) (width height tile : ℕ) (planned : Planned) → width * height ≡ g.n → IsPlanOf g (squares g width height tile) planned → IsPlanOver g planned
 over_squares g width height tile planned pixels is =
-    record { graph = is.order; plan = is.order ∙ ap (λ (n : ℕ). record { n = n; edges = ranked g }) (sym pixels) ∙ ap order_in (sym is.plan) }
+    record { graph = is.order; plan = is.order ∙ ap (λ (n : ℕ). record { n = n; edges = ranked g }) (sym pixels) ∙ ap order_in (sym is.own) }
 
 -- a graph has as many ranked edges as edges
 ranked-length : (g : WeightedGraph) → length (ranked g) ≡ length g.edges
@@ -65,7 +65,7 @@ ranked-length g = length-map-range_with_len (λ k. listed g k (number_at g k)) 0
 receipt-by : (request : Request) (input : Input) (g : WeightedGraph) (plan : TilePlan) (planned : Planned) → IsPlanOf g plan planned → tile_count plan ≡ tiles_of request input → plan.edges ≡ ranked g
     → length g.edges ≡ length (graph_of input).edges → receipt_over planned.plan request.workers ≡ receipt_of request input
 receipt-by request input g plan planned is tiles edges same =
-    ap (λ (p : TilePlan). receipt_over p request.workers) is.plan
+    ap (λ (p : TilePlan). receipt_over p request.workers) is.own
     ∙ ap (λ (t : ℕ). record { tiles = t; workers = request.workers; edges = length plan.edges }) tiles
     ∙ ap (λ (m : ℕ). record { tiles = tiles_of request input; workers = request.workers; edges = m }) (ap (λ (es : EdgeList). length es) edges ∙ ranked-length g ∙ same)
 

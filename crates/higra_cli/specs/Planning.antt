@@ -20,7 +20,7 @@ run_fault plans.OutOfMemory = faults.OutOfMemory
 -- the order of a graph's edges, and this plan of it, whose tiles are not too many
 pub record IsPlanOf (g : WeightedGraph) (plan : TilePlan) (planned : Planned) : Type 0 where
   pub order : planned.order ≡ order_of g
-  pub plan : planned.plan ≡ plan
+  pub own : planned.plan ≡ plan
   pub few : tile_fault (tile_count plan) ≡ None
 
 -- the order of a plan's edges, beside the number of its vertices

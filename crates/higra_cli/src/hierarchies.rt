@@ -3,6 +3,7 @@ ghost use Rattle.std.specs.Prelude.{◌≡◌, ◌^◌, ◌<◌, All, IfOk, leng
 ghost use Rattle.attributes.specs.Attributes.{attributes_of};
 ghost use Rattle.edge_order.specs.Order.{order_of};
 ghost use Rattle.extinction.specs.Hierarchy.{hierarchy_of};
+ghost use Rattle.extinction.specs.Survivors.{extinctions_of};
 ghost use Rattle.hg_base.specs.Levels.{AltitudesRise};
 ghost use Rattle.hg_base.specs.Tree.{graph_tree};
 ghost use Rattle.partition_tree.specs.Forest.{nodes};
@@ -13,7 +14,7 @@ ghost use Rattle.higra_cli.specs.Reports.{cut_tree, graph_energies, regions};
 use attributes::Attributes;
 use edge_order::Order;
 use energy_cut::node_energies;
-use extinction::{Kind, hierarchical};
+use extinction::{Kind, extinctions, hierarchical};
 use hg_base::{Graph, Labels, OutOfMemory};
 use partition_tree::Tree;
 use saliency::cut;
@@ -60,6 +61,23 @@ impl Basins {
         ensures rises { IfOk result (λ hierarchy. AltitudesRise hierarchy) }
     {
         hierarchical(alloc, graph, tree, &self.attributes, &self.minima, kind)
+    }
+
+    /// The extinctions of its minima by a kind, by label.
+    pub(crate) fn extinctions(
+        &self,
+        alloc: Global,
+        graph: &Graph,
+        tree: &Tree,
+        kind: Kind,
+    ) -> Result<Vec<u64>, OutOfMemory>
+        requires tree { IsTreeOf graph.now tree.now }
+        requires attributes { self.now.attributes ≡ attributes_of graph.now }
+        requires minima { self.now.minima ≡ minima_of graph.now }
+        ensures { IfOk result (λ values. values.items ≡ extinctions_of graph.now kind) }
+    {
+        let _ = graph;
+        extinctions(alloc, tree, &self.attributes, &self.minima, kind)
     }
 }
 

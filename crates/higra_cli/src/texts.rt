@@ -27,7 +27,7 @@ use super::summary::{summary_of, summary_pieces};
 use attributes::{Attributes, attributes_pieces};
 use edge_order::Order;
 use energy_cut::{energy_pieces, least_cut};
-use extinction::{Kind, extinctions, hierarchical_pieces};
+use extinction::{Kind, hierarchical_pieces};
 use forest_witness::witness;
 use hg_base::{Graph, OutOfMemory};
 use label_writer::labels_pieces;
@@ -84,7 +84,8 @@ fn zones_text(
     ensures { IfOk result (λ text. text ≡ tree_report (zones_of (graph_tree graph.now))) }
 {
     let _ = graph;
-    tree_pieces(rt, alloc, &zones(alloc, tree)?)
+    let zones = zones(alloc, tree)?;
+    tree_pieces(rt, alloc, &zones)
 }
 
 // The text of the watershed cut.
@@ -115,11 +116,11 @@ fn hierarchical_text(
     kind: Kind,
 ) -> Result<Pieces, OutOfMemory>
     requires order { order.now ≡ order_of graph.now }
-    requires tree { tree.now ≡ graph_tree graph.now }
+    requires tree { IsTreeOf graph.now tree.now }
     ensures { IfOk result (λ text. text ≡ hierarchical_report (hierarchy_of graph.now kind) (extinctions_of graph.now kind)) }
 {
     let basins = Basins::of(alloc, graph, order, tree)?;
-    let values = extinctions(alloc, tree, &basins.attributes, &basins.minima, kind)?;
+    let values = basins.extinctions(alloc, graph, tree, kind)?;
     let hierarchy = basins.hierarchy(alloc, graph, tree, kind)?;
     hierarchical_pieces(rt, alloc, &hierarchy, &values)
 }

@@ -1,9 +1,9 @@
 -- The areas, the altitudes and the energies of the nodes of a graph's tree.
-use Rattle.std.proofs.Common.{◌≡◌, ℕ, ◌+◌, ◌*◌, ◌<◌, ◌≤◌, ◌^◌, inl, inr, ◌++◌, List, [], ◌∷◌, All, length, map, take, take_more, sym, ap, ◌∙◌, subst, arith}
+use Rattle.std.proofs.Common.{◌≡◌, ℕ, ◌+◌, ◌*◌, ◌<◌, ◌≤◌, ◌^◌, inl, inr, ◌++◌, List, [], ◌∷◌, All, length, map, take, take_all, sym, ap, ◌∙◌, subst, arith}
 use Rattle.std.specs.Prelude.{Some, slice_get}
 use Rattle.std.specs.List.{count_by, range_with_len}
 use Rattle.std.proofs.lemmas.Bool.{cases_lt}
-use Rattle.std.proofs.lemmas.List.{get_or_past}
+use Rattle.std.proofs.lemmas.List.{get_or_past, take_more}
 use Rattle.std.proofs.lemmas.List.Elements.{All-map}
 use Rattle.std.proofs.lemmas.List.FromFn.{length-map-range_with_len, length-range_with_len}
 use Rattle.std.proofs.lemmas.List.Sums.{count_by-le-length, length-filter, sum_by-le}
@@ -36,6 +36,10 @@ areas_each g t lists is same =
 pub areas_more : (xs : List ℕ) (i v : ℕ) (old new : List ℕ) → slice_get xs i ≡ Some v → old ≡ take i xs → new ≡ old ++ v ∷ [] → new ≡ take (i + 1) xs
 areas_more xs i v old new at so_far more =
     more ∙ ap (λ (ys : List ℕ). ys ++ v ∷ []) so_far ∙ ap (λ (k : ℕ). take i xs ++ k ∷ []) (sym (get_or_from_slice_get xs i v 0 at)) ∙ sym (take_more xs i 0 (slice_get_within xs i v at))
+
+-- and all of them
+pub areas_all : (xs : List ℕ) (i : ℕ) (ys : List ℕ) → length xs ≤ i → ys ≡ take i xs → ys ≡ xs
+areas_all xs i ys long so_far = so_far ∙ take_all i xs long
 
 -- the area of a vertex is at most 4096
 area-small : (g : WeightedGraph) → IsGraph g → (x : ℕ) → area g x ≤ 4096

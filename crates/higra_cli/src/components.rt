@@ -1,5 +1,5 @@
 // The component trees of a picture.
-ghost use Rattle.std.specs.Prelude.{◌≡◌, Some, IfOk, length};
+ghost use Rattle.std.specs.Prelude.{◌≡◌, ◌*◌, Some, IfOk, length};
 ghost use Rattle.component_tree.specs.Components.{IsComponentTree};
 ghost use Rattle.component_tree.specs.MinTree.{component_tree_of, value_at};
 ghost use Rattle.component_tree.specs.Report.{components_report};
@@ -118,7 +118,8 @@ fn components_text(
 // The samples of a picture as values of its pixels.
 #[tactic(auto, using(crate::proofs::EnergyLemmas::areas_more))]
 fn values_of(alloc: Global, picture: &Picture) -> Result<Values, AllocError>
-    ensures { IfOk result (λ values. values ≡ picture.now.samples) }
+    ensures samples { IfOk result (λ values. values ≡ picture.now.samples) }
+    ensures one_each { IfOk result (λ values. length values ≡ picture.now.width * picture.now.height) }
 {
     let count = picture.width() * picture.height();
     let mut values = Vec::with_capacity(alloc, count as usize)?;

@@ -120,11 +120,22 @@ pub(crate) fn energies(
 {
     read_weights(graph);
     let attributes = Attributes::of(alloc, graph, tree)?;
-    let areas = areas_of(alloc, tree, &attributes).map_err(|_| OutOfMemory)?;
+    let areas = node_areas(alloc, tree, &attributes)?;
     node_energies(alloc, tree, &areas, penalty)
 }
 
 // The areas of the nodes of a tree.
+fn node_areas(
+    alloc: Global,
+    tree: &Tree,
+    attributes: &Attributes,
+) -> Result<Vec<u64>, OutOfMemory>
+    requires { length attributes.now.areas ≡ nodes tree.now }
+    ensures { IfOk result (λ areas. areas.items ≡ attributes.now.areas) }
+{
+    areas_of(alloc, tree, attributes).map_err(|_| OutOfMemory)
+}
+
 #[tactic(auto, using(crate::proofs::EnergyLemmas::areas_more))]
 fn areas_of(
     alloc: Global,

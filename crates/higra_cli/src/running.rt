@@ -106,7 +106,7 @@ fn work<S: Source, K: Sink, G: Gate>(
 }
 
 // Makes the report that is asked for and writes it.
-#[tactic(auto, using(crate::proofs::RunningLemmas::reports_written))]
+#[tactic(auto, using(crate::proofs::RunningLemmas::reports_written), unfolding(crate::specs::Reports::refusal, crate::specs::Reports::report_of))]
 fn write_report<K: Sink, G: Gate>(
     rt: &(impl Threads + Sync),
     alloc: Global,

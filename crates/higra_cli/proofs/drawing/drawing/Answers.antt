@@ -14,7 +14,7 @@ use Rattle.higra_cli.specs.declared.writing.RunFault.{RunFault}
 use Rattle.higra_cli.proofs.drawing.drawing.Goals as goal
 
 pub plan_pixels-requires-clause-pixels : goal.plan_pixels-requires-clause-pixels
-plan_pixels-requires-clause-pixels g c = pixels_in c.args.picture.now c.in_ok-graph.graph c.in_ok-graph.ensures
+plan_pixels-requires-clause-pixels g c κs within = pixels_in c.args.picture.now c.in_ok-graph.graph c.in_ok-graph.ensures
 
 pub returns-in_err-pieces-clause-picture : goal.returns-in_err-pieces-clause-picture
 returns-in_err-pieces-clause-picture g c =

@@ -10,3 +10,7 @@ pub mod RunningLemmas
 pub mod SpelledLemmas
 pub mod WatershedLemmas
 pub mod SummaryLemmas
+pub mod HierarchyLemmas
+pub mod ComponentLemmas
+pub mod EnergyLemmas
+pub mod CutLemmas

@@ -8,8 +8,8 @@ use Rattle.higra_cli.proofs.ReadingLemmas.{AreRead-all}
 use Rattle.higra_cli.specs.Command.{requested}
 use Rattle.higra_cli.specs.Inputs.{graph_of, input_for}
 use Rattle.higra_cli.specs.Reading.{Told}
-use Rattle.higra_cli.specs.Reports.{receipt_of, refusal, report_of}
-use Rattle.higra_cli.specs.Running.{AreBytesOf, Ends, EndsWork, EndsWriting, GotInput, HasStatus, IsAnswerTo, IsFor, IsHierarchy, Reports, ReportsWith, StoodStill, StopsGetting, Writes, answer_of, status_by, status_for}
+use Rattle.higra_cli.specs.Reports.{component_side, receipt_of, refusal, report_of}
+use Rattle.higra_cli.specs.Running.{AreBytesOf, Ends, EndsWork, EndsWriting, GotInput, HasComponents, HasStatus, IsAnswerTo, IsFor, IsHierarchy, Reports, ReportsWith, StoodStill, StopsGetting, Writes, answer_of, status_by, status_for}
 use Rattle.higra_cli.specs.declared.input.Input.{Input}
 use Rattle.higra_cli.specs.declared.request.Made.{Made}
 use Rattle.higra_cli.specs.declared.request.Request.{Request}
@@ -73,11 +73,13 @@ Reports-done words request input old new Done asked got writes = record {
   accepted = writes.accepted;
   done = writes.done;
   hierarchy = writes.hierarchy;
+  components = writes.components;
 }
 
 -- something was done with the bytes of a report
-pub reports_written : (request : Request) (input : Input) (Done : List ℕ → Type 0) (bytes : List ℕ) → refusal request input ≡ None → bytes ≡ report_of request input → Done bytes → IsHierarchy (graph_of input) → Writes request input Done
-reports_written request input Done bytes accepted are done hierarchy = record { accepted = accepted; done = subst Done are done; hierarchy = hierarchy }
+pub reports_written : (request : Request) (input : Input) (Done : List ℕ → Type 0) (bytes : List ℕ) → refusal request input ≡ None → bytes ≡ report_of request input → Done bytes → IsHierarchy (graph_of input)
+    → HasComponents (component_side request.report) input → Writes request input Done
+reports_written request input Done bytes accepted are done hierarchy components = record { accepted = accepted; done = subst Done are done; hierarchy = hierarchy; components = components }
 
 -- how the writing of the report ended the run
 pub Ends-written : (words : List (List ℕ)) (request : Request) (input : Input) (old new out out' : Told) (result : Result ReceiptState Status) → requested words ≡ Some request → new.faults ≡ old.faults → GotInput request.made old.bytes new.bytes input

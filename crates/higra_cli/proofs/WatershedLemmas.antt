@@ -1,27 +1,19 @@
 -- The watershed cut of a graph is one.
 use Rattle.std.proofs.Common.{◌≡◌, ℕ, ◌+◌, ◌<◌, ◌≤◌, true, inl, inr, sym, subst, ap, ◌∙◌, arith, length, map}
 use Rattle.std.specs.Prelude.{◌↔◌, ◌==◌, Option, filter}
-use Rattle.std.specs.Option.{option_map_or}
 use Rattle.std.proofs.lemmas.Bool.{eqb-false, ne_eqb, not-true, not_from_false}
 use Rattle.std.proofs.lemmas.List.FromFn.{get_or-map-range_with_len, length-map-range_with_len}
-use Rattle.std.proofs.lemmas.Option.{get_or_from_slice_get}
-use Rattle.edge_order.specs.Order.{EdgeOrder, order_of}
-use Rattle.hg_base.specs.declared.graph.Edge.{Edge}
 use Rattle.hg_base.specs.Edges.{ListedEdge, AreWithin, IsIn, Joined}
-use Rattle.hg_base.specs.Graph.{WeightedGraph, JoinsTwo, first_end, second_end}
-use Rattle.hg_base.specs.Rank.{listed, number_at, numbers, rank, ranked}
-use Rattle.hg_base.specs.Tree.{ParentTree, graph_tree}
+use Rattle.hg_base.specs.Graph.{WeightedGraph, IsGraph, first_end, second_end}
+use Rattle.hg_base.specs.Rank.{listed, numbers, rank, ranked}
 use Rattle.hg_base.proofs.Components.{IsIn-append, IsIn-append_back}
 use Rattle.hg_base.proofs.Drops.{holds}
 use Rattle.hg_base.proofs.Members.{IsIn-filter, IsIn-kept}
-use Rattle.hg_base.proofs.Nodes.{slice_get-some}
-use Rattle.hg_base.proofs.Ranked.{AreApart-ranked, IsIn-ranked}
+use Rattle.hg_base.proofs.Ranked.{AreApart-ranked, AreWithin-ranked, IsIn-ranked}
 use Rattle.hg_base.proofs.Sets.{joined-among}
 use Rattle.hg_base.proofs.Walks.{Joined-joined}
 use Rattle.forest_witness.specs.Reading.{IsRead}
 use Rattle.forest_witness.proofs.Shapes.{read_least, read_rooted}
-use Rattle.partition_tree.specs.Forest.{IsForest}
-use Rattle.tile_plan.specs.Plan.{TilePlan, IsEdgeAmong, IsPlan, vertices}
 use Rattle.watershed_cut.specs.Forest.{forest, is_forest, trees}
 use Rattle.watershed_cut.specs.MinimumLabels.{numbered}
 use Rattle.watershed_cut.specs.MinimumTests.{minimum_edges}
@@ -30,36 +22,11 @@ use Rattle.watershed_cut.specs.Watershed.{is_cut, tree_label, watershed_of}
 use Rattle.watershed_cut.proofs.AnyIn.{range-from, range-to}
 use Rattle.watershed_cut.proofs.GraphForest.{graph-forest}
 use Rattle.watershed_cut.proofs.TreeLabels.{tree-label_same, tree-label_walk}
-use Rattle.higra_cli.specs.Planning.{order_in}
 use Rattle.higra_cli.specs.Running.{IsWatershed}
 
--- a planned graph has few vertices and edges, and each edge joins two of its vertices
-pub plan-read : (g : WeightedGraph) (p : TilePlan) (t : ParentTree) → IsPlan p → order_of g ≡ order_in p → t ≡ graph_tree g → IsForest t → IsRead g
-plan-read g p t plan order same made = record {
-  some_vertex = (let some : 1 ≤ t.leaves = made.some_leaf in omega (arith, some, leaves));
-  vertices = (let few : t.leaves ≤ 1048576 = made.few_leaves in omega (arith, few, leaves));
-  edges = (let few : length p.edges ≤ 4194304 = plan.few in omega (arith, few, long, all));
-  ends = λ k d h. (let found = slice_get-some g.edges k h in
-      let among : IsEdgeAmong (vertices p) (listed g (rank g k) k) = plan.edges (listed g (rank g k) k) (subst (λ (o : EdgeOrder). IsIn (listed g (rank g k) k) o.edges) order (IsIn-ranked g k h)) in
-      let u : first_end g k ≡ found.0.u = ap (λ (o : Option Edge). option_map_or (λ x. x.u) o 0) found.1 in
-      let v : second_end g k ≡ found.0.v = ap (λ (o : Option Edge). option_map_or (λ x. x.v) o 0) found.1 in
-      let first : first_end g k < vertices p = among.u in
-      let second : second_end g k < vertices p = among.v in
-      subst (JoinsTwo g.n) (sym (get_or_from_slice_get g.edges k found.0 d found.1))
-      (record { u = omega (arith, u, first, size); v = omega (arith, v, second, size); apart = λ one. among.apart (u ∙ one ∙ sym v) }));
-}
-  where
-    leaves : t.leaves ≡ g.n
-    leaves = ap (λ (u : ParentTree). u.leaves) same
-
-    size : g.n ≡ vertices p
-    size = ap (λ (o : EdgeOrder). o.n) order
-
-    long : length (ranked g) ≡ length p.edges
-    long = ap (λ (o : EdgeOrder). length o.edges) order
-
-    all : length (ranked g) ≡ length g.edges
-    all = length-map-range_with_len (λ k. listed g k (number_at g k)) 0 (length g.edges)
+-- what reading the edges of a graph tells holds of every graph
+graph-read : (g : WeightedGraph) → IsGraph g → IsRead g
+graph-read g is = record { some_vertex = is.some_vertex; vertices = is.vertices; edges = is.edges; ends = is.ends }
 
 -- the ends of an edge are vertices
 pub ends-within : (g : WeightedGraph) (e : ℕ) → AreWithin g.n (ranked g) → e < length g.edges → (first_end g e < g.n) × (second_end g e < g.n)
@@ -116,13 +83,15 @@ cut-member g e within = (
       IsIn-filter (is_cut g) e (numbers g) ((cut-test g e within low).1 p.1) (range-from 0 (length g.edges) e (omega arith) (omega (arith, low)))),
 )
 
--- the watershed cut of a graph with these edges is one
-pub watershed-is : (g : WeightedGraph) → AreWithin g.n (ranked g) → IsRead g → IsWatershed g (watershed_of g)
-watershed-is g within read = record {
-  rooted = read_rooted g read;
-  least = read_least g read;
-  one_label_each = length-map-range_with_len (tree_label g.n (ranked g)) 0 g.n;
-  reach = (read_rooted g read).reach;
-  label = λ x y hx low j. (get_or-map-range_with_len (tree_label g.n (ranked g)) 0 g.n x x 0 hx (omega arith) ∙ tree-label_walk g.n (ranked g) (AreApart-ranked g) within x y low (joined-trees g x y j));
-  cut = λ e. cut-member g e within;
-}
+-- the watershed cut of a graph is one
+pub watershed-is : (g : WeightedGraph) → IsGraph g → IsWatershed g (watershed_of g)
+watershed-is g is =
+    let within = AreWithin-ranked g is in
+    let read = graph-read g is in record {
+      rooted = read_rooted g read;
+      least = read_least g read;
+      one_label_each = length-map-range_with_len (tree_label g.n (ranked g)) 0 g.n;
+      reach = (read_rooted g read).reach;
+      label = λ x y hx low j. (get_or-map-range_with_len (tree_label g.n (ranked g)) 0 g.n x x 0 hx (omega arith) ∙ tree-label_walk g.n (ranked g) (AreApart-ranked g) within x y low (joined-trees g x y j));
+      cut = λ e. cut-member g e within;
+    }

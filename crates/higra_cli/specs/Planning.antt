@@ -7,9 +7,7 @@ use Rattle.merge_board.specs.Seats.{ReceiptState}
 use Rattle.tile_plan.specs.Plan.{TilePlan, tile_count, vertices}
 use Rattle.tile_plan.specs.declared.fault.PlanFault.{PlanFault}
 use Rattle.tile_plan.specs.declared.fault.PlanFault.TheVariants as plans
-use Rattle.higra_cli.specs.Inputs.{graph_of}
-use Rattle.higra_cli.specs.Reports.{plan_of, tile_fault}
-use Rattle.higra_cli.specs.declared.input.Input.{Input}
+use Rattle.higra_cli.specs.Reports.{tile_fault}
 use Rattle.higra_cli.specs.declared.planning.Planned.{Planned}
 use Rattle.higra_cli.specs.declared.writing.RunFault.{RunFault}
 use Rattle.higra_cli.specs.declared.writing.RunFault.TheVariants as faults
@@ -19,11 +17,11 @@ abbrev pub run_fault : PlanFault → RunFault
 run_fault (plans.TooManyTiles count) = faults.Input (record { kind = TooManyTiles; at = 0; value = count })
 run_fault plans.OutOfMemory = faults.OutOfMemory
 
--- the order of the edges of an input's graph, and its plan in tiles of this size, which are not too many
-pub record IsPlanOf (tile : ℕ) (input : Input) (planned : Planned) : Type 0 where
-  pub order : planned.order ≡ order_of (graph_of input)
-  pub plan : planned.plan ≡ plan_of tile input
-  pub few : tile_fault (tile_count (plan_of tile input)) ≡ None
+-- the order of a graph's edges, and this plan of it, whose tiles are not too many
+pub record IsPlanOf (g : WeightedGraph) (plan : TilePlan) (planned : Planned) : Type 0 where
+  pub order : planned.order ≡ order_of g
+  pub own : planned.plan ≡ plan
+  pub few : tile_fault (tile_count plan) ≡ None
 
 -- the order of a plan's edges, beside the number of its vertices
 abbrev pub order_in : TilePlan → EdgeOrder
@@ -38,8 +36,8 @@ pub record IsPlanOver (g : WeightedGraph) (planned : Planned) : Type 0 where
 abbrev pub receipt_over : TilePlan → ℕ → ReceiptState
 receipt_over p workers = record { tiles = tile_count p; workers = workers; edges = length p.edges }
 
--- what planning answers: the order and the plan, or that there are too many tiles, or that memory ran out
-abbrev pub IsPlanned : ℕ → Input → Result Planned RunFault → Type 0
-IsPlanned tile input (Ok planned) = IsPlanOf tile input planned
-IsPlanned tile input (Err (faults.Input fault)) = tile_fault (tile_count (plan_of tile input)) ≡ Some fault
-IsPlanned tile input (Err faults.OutOfMemory) = Unit {0}
+-- what planning a graph answers: the order and this plan, or that there are too many tiles, or that memory ran out
+abbrev pub IsPlanned : WeightedGraph → TilePlan → Result Planned RunFault → Type 0
+IsPlanned g plan (Ok planned) = IsPlanOf g plan planned
+IsPlanned g plan (Err (faults.Input fault)) = tile_fault (tile_count plan) ≡ Some fault
+IsPlanned g plan (Err faults.OutOfMemory) = Unit {0}

@@ -1,10 +1,11 @@
 -- Which texts of a command line give which request: the table of the words and options.
-use Rattle.std.specs.Prelude.{ℕ, ◌^◌, Bool, true, false, ◌&&◌, ◌||◌, nat_le, nat_lt, List, length, Option, Some, None, is_some, codes, if◌then◌else◌}
+use Rattle.std.specs.Prelude.{ℕ, ◌^◌, Bool, true, false, ◌&&◌, ◌||◌, nat_le, nat_lt, List, length, Option, Some, None, is_some, option_map, codes, if◌then◌else◌}
 use Rattle.std.specs.Char.{is_ascii_digit}
 use Rattle.std.specs.List.{list_all}
 use Rattle.std.specs.Str.{bytes_eq}
 use Rattle.std.specs.Str.Parse.{digits_value}
-use Rattle.higra_cli.specs.declared.request.Kind.{Kind}
+use Rattle.extinction.specs.declared.kind.Kind.{Kind}
+use Rattle.extinction.specs.declared.kind.Kind.TheVariants.{Area, Dynamics, Volume}
 use Rattle.higra_cli.specs.declared.request.Report.{Report}
 use Rattle.higra_cli.specs.declared.request.Report.TheVariants as reports
 use Rattle.higra_cli.specs.declared.request.Form.{Form}
@@ -64,13 +65,24 @@ workers_by = value_or 4 (number_in 1 64)
 abbrev pub alone : CommandLine → Report → Option Report
 alone line report = if is_some line.kind || is_some line.level then None else Some report
 
--- the tree that a kind cuts; so far it is the graph's own, whose kind is `altitude`
-abbrev pub kind_named : List ℕ → Option (Option Kind)
-kind_named text = if bytes_eq text (codes "altitude") then Some None else None
+-- the kind of attribute with this name
+abbrev pub kind_named : List ℕ → Option Kind
+kind_named text =
+    if bytes_eq text (codes "area") then Some Area
+    else (if bytes_eq text (codes "volume") then Some Volume
+    else (if bytes_eq text (codes "dynamics") then Some Dynamics else None))
 
--- `--kind` of a cut: `altitude`, or else `altitude`
-abbrev pub kind_by : Option (List ℕ) → Option (Option Kind)
-kind_by = value_or None kind_named
+-- `--kind` of a hierarchical watershed: a kind of attribute, or else `dynamics`
+abbrev pub kind_by : Option (List ℕ) → Option Kind
+kind_by = value_or Dynamics kind_named
+
+-- the tree with this name that a cut is of: the graph's own, which is `altitude`, or its hierarchical watershed by a kind
+abbrev pub cut_tree_named : List ℕ → Option (Option Kind)
+cut_tree_named text = if bytes_eq text (codes "altitude") then Some None else option_map Some (kind_named text)
+
+-- `--kind` of a cut: the tree that is cut, or else the graph's own
+abbrev pub cut_tree_by : Option (List ℕ) → Option (Option Kind)
+cut_tree_by = value_or None cut_tree_named
 
 -- `--level`: a number, or else 0
 abbrev pub level_by : Option (List ℕ) → Option ℕ
@@ -79,9 +91,17 @@ level_by = value_or 0 number
 -- a cut, by its `--kind` and its `--level`
 abbrev pub cut_by : CommandLine → Option Report
 cut_by line = do
-  kind ← kind_by line.kind
+  kind ← cut_tree_by line.kind
   level ← level_by line.level
   Some (reports.Cut kind level)
+
+-- a hierarchical watershed, by its `--kind`; it takes no `--level`
+abbrev pub hierarchical_by : CommandLine → Option Report
+hierarchical_by line = if is_some line.level then None else option_map reports.Hierarchical (kind_by line.kind)
+
+-- a cut of least energy, by its `--level`; it takes no `--kind`
+abbrev pub energy_by : CommandLine → Option Report
+energy_by line = if is_some line.kind then None else option_map reports.Energy (level_by line.level)
 
 -- REPORT, with the options that this report takes
 abbrev pub report_by : CommandLine → Option Report
@@ -92,10 +112,14 @@ report_by line =
     else (if bytes_eq line.report (codes "attributes") then alone line reports.Attributes
     else (if bytes_eq line.report (codes "minima") then alone line reports.Minima
     else (if bytes_eq line.report (codes "watershed") then alone line reports.Watershed
+    else (if bytes_eq line.report (codes "hierarchical") then hierarchical_by line
+    else (if bytes_eq line.report (codes "cut") then cut_by line
     else (if bytes_eq line.report (codes "summary") then alone line reports.Summary
-    else (if bytes_eq line.report (codes "cut") then cut_by line else None)))))))
+    else (if bytes_eq line.report (codes "mintree") then alone line reports.Mintree
+    else (if bytes_eq line.report (codes "maxtree") then alone line reports.Maxtree
+    else (if bytes_eq line.report (codes "energy") then energy_by line else None)))))))))))
 
--- whether a report can be drawn as a picture: a watershed or a cut, whose labels are its samples
+-- whether a report can be drawn as a picture: a watershed and the cuts, whose labels are its samples
 abbrev pub can_be_drawn : Report → Bool
 can_be_drawn reports.Tree = false
 can_be_drawn reports.Zones = false
@@ -103,8 +127,12 @@ can_be_drawn reports.Saliency = false
 can_be_drawn reports.Attributes = false
 can_be_drawn reports.Minima = false
 can_be_drawn reports.Watershed = true
-can_be_drawn reports.Summary = false
+can_be_drawn (reports.Hierarchical kind) = false
 can_be_drawn (reports.Cut kind level) = true
+can_be_drawn reports.Summary = false
+can_be_drawn reports.Mintree = false
+can_be_drawn reports.Maxtree = false
+can_be_drawn (reports.Energy penalty) = true
 
 -- the form with this name, where the report can have it
 abbrev pub form_named : Report → List ℕ → Option Form

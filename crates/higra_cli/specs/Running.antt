@@ -1,11 +1,18 @@
 -- What a run leaves behind, by how it ended.
 use Rattle.std.specs.Prelude.{◌≡◌, ◌↔◌, ◌⊎◌, ℕ, ◌-◌, ◌^◌, ◌<◌, ◌≤◌, true, List, get_or, length, Option, Some, None, Result, Ok, Err, MatchResult}
 use Rattle.std.specs.Io.KnownBytes.{Appends}
+use Rattle.component_tree.specs.Components.{IsComponentTree}
+use Rattle.component_tree.specs.MinTree.{value_at}
+use Rattle.component_tree.specs.declared.side.Side.{Side}
+use Rattle.energy_cut.specs.Cuts.{IsLeastCut}
+use Rattle.extinction.specs.Hierarchy.{hierarchy_of}
+use Rattle.extinction.specs.declared.kind.Kind.{Kind}
 use Rattle.hg_base.specs.Edges.{IsIn, Joined}
 use Rattle.hg_base.specs.Graph.{WeightedGraph, first_end, second_end}
+use Rattle.hg_base.specs.Levels.{Shares}
 use Rattle.hg_base.specs.Outside.{Rose, AppendsPrefix}
 use Rattle.hg_base.specs.Rank.{ranked}
-use Rattle.hg_base.specs.Tree.{IsFrontTree, graph_tree}
+use Rattle.hg_base.specs.Tree.{IsFrontTree, ParentTree, graph_tree}
 use Rattle.hg_base.specs.Saliency.{IsSaliency}
 use Rattle.hg_base.specs.Saliencies.{saliency}
 use Rattle.hg_base.specs.declared.fault.InputFault.{InputFault}
@@ -18,10 +25,10 @@ use Rattle.watershed_cut.specs.Watershed.{WatershedCut, watershed_of}
 use Rattle.higra_cli.specs.Command.{requested}
 use Rattle.higra_cli.specs.Inputs.{graph_of, input_for}
 use Rattle.higra_cli.specs.Reading.{Told, GaveInput, StopsReading}
-use Rattle.higra_cli.specs.Reports.{receipt_of, refusal, report_of}
+use Rattle.higra_cli.specs.Reports.{component_side, graph_energies, graph_energy_cut, picture_components, receipt_of, refusal, report_of}
 use Rattle.higra_cli.specs.Request.{can_be_drawn}
 use Rattle.higra_cli.specs.declared.input.Input.{Input}
-use Rattle.higra_cli.specs.declared.input.Input.TheVariants.{Picture}
+use Rattle.higra_cli.specs.declared.input.Input.TheVariants.{Edges, Picture}
 use Rattle.higra_cli.specs.declared.request.Made.{Made}
 use Rattle.higra_cli.specs.declared.request.Request.{Request}
 use Rattle.higra_cli.specs.declared.request.Form.{Form}
@@ -35,17 +42,6 @@ use Rattle.higra_cli.specs.declared.ending.Status.TheVariants as statuses
 abbrev pub IsFormOf : Report → Form → Type 0
 IsFormOf report form = (form ≡ forms.Text) ⊎ (can_be_drawn report ≡ true)
 
--- so far a cut is of the graph's own tree
-abbrev pub CutsOwn : Report → Type 0
-CutsOwn reports.Tree = Unit {0}
-CutsOwn reports.Zones = Unit {0}
-CutsOwn reports.Saliency = Unit {0}
-CutsOwn reports.Attributes = Unit {0}
-CutsOwn reports.Minima = Unit {0}
-CutsOwn reports.Watershed = Unit {0}
-CutsOwn reports.Summary = Unit {0}
-CutsOwn (reports.Cut kind level) = kind ≡ None
-
 -- what a report may be asked for
 pub record CanReport (request : Request) : Type 0 where
   pub some_tile : 1 ≤ request.tile
@@ -53,7 +49,6 @@ pub record CanReport (request : Request) : Type 0 where
   pub some_worker : 1 ≤ request.workers
   pub workers : request.workers ≤ 64
   pub form : IsFormOf request.report request.form
-  pub own : CutsOwn request.report
 
 -- the side of a picture that can be made
 pub record CanMake (m : Made) : Type 0 where
@@ -128,12 +123,30 @@ pub record IsWatershed (g : WeightedGraph) (w : WatershedCut) : Type 0 where
   pub label : (x y : ℕ) → x < g.n → InMinimum g.n (ranked g) y → Joined (planted g w.forest) x y → get_or w.labels.labels x 0 ≡ vertex_label g.n (ranked g) y
   pub cut : (e : ℕ) → IsIn e w.cut ↔ ((e < length g.edges) × (¬ Joined (planted g w.forest) (first_end g e) (second_end g e)))
 
+-- Two vertices share a node of altitude 0 of the hierarchical watershed exactly where the watershed cut gives them one label.
+abbrev pub BeginsAtWatershed : WeightedGraph → ParentTree → Type 0
+BeginsAtWatershed g tree =
+    (x y : ℕ) → x < g.n → y < g.n → (Shares tree 0 x y ↔ (get_or (watershed_of g).labels.labels x 0 ≡ get_or (watershed_of g).labels.labels y 0))
+
 -- the nodes of a graph's tree are the components of its fronts, each once, the saliency of each edge is the least weight
--- that joins its ends, and the watershed cut is one
+-- that joins its ends, the watershed cut is one, each hierarchical watershed begins at it, and each least cut is one
 pub record IsHierarchy (g : WeightedGraph) : Type 0 where
   pub nodes : IsFrontTree (graph_tree g) g.n (ranked g)
   pub saliencies : (e : ℕ) → e < length g.edges → IsSaliency g e (saliency g e)
   pub watershed : IsWatershed g (watershed_of g)
+  pub hierarchies : (kind : Kind) → BeginsAtWatershed g (hierarchy_of g kind)
+  pub cuts : (penalty : ℕ) → IsLeastCut (graph_tree g) (graph_energies g penalty) (graph_energy_cut g penalty).nodes
+
+-- the nodes of a picture's component tree are the components of its pixels up to each sample, or from each on, each once
+abbrev pub HasComponentsOf : Side → Input → Type 0
+HasComponentsOf side (Edges graph) = Unit {0}
+HasComponentsOf side (Picture raster) =
+    IsComponentTree side (value_at raster.samples) (graph_of (Picture raster)).n (ranked (graph_of (Picture raster))) (picture_components side raster)
+
+-- the same of the component tree of a side that is reported, if one is
+abbrev pub HasComponents : Option Side → Input → Type 0
+HasComponents None input = Unit {0}
+HasComponents (Some side) input = HasComponentsOf side input
 
 -- The words gave a request, its input is accepted, and this was done with exactly the report that was asked for.
 pub record Reports (words : List (List ℕ)) (old new : Option (List ℕ)) (Done : List ℕ → Type 0) : Type 0 where
@@ -144,6 +157,7 @@ pub record Reports (words : List (List ℕ)) (old new : Option (List ℕ)) (Done
   pub accepted : refusal request input ≡ None
   pub done : Done (report_of request input)
   pub hierarchy : IsHierarchy (graph_of input)
+  pub components : HasComponents (component_side request.report) input
 
 -- this was done with exactly the report that was asked for, and the receipt is the one of its request and its input
 abbrev pub ReportsWith : List (List ℕ) → Option (List ℕ) → Option (List ℕ) → (List ℕ → Type 0) → ReceiptState → Type 0
@@ -154,6 +168,7 @@ pub record Writes (request : Request) (input : Input) (Done : List ℕ → Type 
   pub accepted : refusal request input ≡ None
   pub done : Done (report_of request input)
   pub hierarchy : IsHierarchy (graph_of input)
+  pub components : HasComponents (component_side request.report) input
 
 -- how the making and the writing of a report left the sink
 abbrev pub EndsWriting : Request → Input → Told → Told → Result ReceiptState Status → Type 0

@@ -1,30 +1,31 @@
 // Drawing a report as a picture.
 ghost use Rattle.std.specs.Prelude.{◌≡◌, ◌*◌, true, IfOk, length};
 ghost use Rattle.edge_order.specs.Order.{order_of};
-ghost use Rattle.hg_base.specs.Labels.{labelling};
-ghost use Rattle.hg_base.specs.Levels.{AltitudesRise, shares};
 ghost use Rattle.hg_base.specs.Tree.{graph_tree};
 ghost use Rattle.pgm_reader.specs.Grid as grid;
 ghost use Rattle.watershed_cut.specs.Watershed.{watershed_of};
-ghost use Rattle.higra_cli.specs.Drawing.{IsDrawn};
+ghost use Rattle.higra_cli.specs.Drawing.{AreDrawn, IsDrawn};
 ghost use Rattle.higra_cli.specs.Inputs.{graph_of};
 ghost use Rattle.higra_cli.specs.Ordered.{IsTreeOf};
-ghost use Rattle.higra_cli.specs.Reports.{IsReportIn, labels_of, receipt_of};
+ghost use Rattle.higra_cli.specs.Reports.{IsReportIn, component_side, cut_tree, graph_energy_cut, labels_of, receipt_of, regions};
 ghost use Rattle.higra_cli.specs.Request.{can_be_drawn};
-ghost use Rattle.higra_cli.specs.Running.{CanReport, CutsOwn, IsHierarchy};
+ghost use Rattle.higra_cli.specs.Running.{CanReport, HasComponents, IsHierarchy};
 
+use super::hierarchies::{energies, regions};
 use super::input::Input;
 use super::merging::tree_of;
 use super::planning::plan_pixels;
 use super::request::{Form, Report, Request};
 use super::writing::RunFault;
 use edge_order::Order;
+use energy_cut::least_cut;
+use extinction::Kind;
 use hg_base::{FaultKind, Gate, Graph, InputFault, Labels};
 use label_writer::{LabelFault, write_pgm};
 use merge_board::Receipt;
 use partition_tree::Tree;
 use pgm_reader::{Picture, graph_of};
-use saliency::cut;
+use report_lines::Pieces;
 use std::alloc::Global;
 use std::thread::Threads;
 use watershed_cut::{Minima, watershed};
@@ -47,12 +48,13 @@ pub(crate) fn picture_about<G: Gate>(
     request: &Request,
     input: &Input,
     gate: &G,
-) -> Result<(Vec<u8>, Receipt), RunFault>
+) -> Result<(Pieces, Receipt), RunFault>
     requires request { CanReport request.now }
     requires drawn { can_be_drawn request.now.report ≡ true }
     ensures picture { IsReportIn Form.Pgm request.now.tile request.now.report input.now result }
     ensures receipt { IfOk result (λ made. made.1 ≡ receipt_of request.now input.now) }
     ensures hierarchy { IfOk result (λ _. IsHierarchy (graph_of input.now)) }
+    ensures components { IfOk result (λ _. HasComponents (component_side request.now.report) input.now) }
 {
     match input {
         Input::Edges(_) => Err(RunFault::Input(NOT_A_PICTURE)),
@@ -61,30 +63,30 @@ pub(crate) fn picture_about<G: Gate>(
 }
 
 // The picture of a report about a picture, and the receipt.
-#[tactic(auto, using(crate::proofs::PlanningLemmas::plan_is_over))]
+#[tactic(auto, using(crate::proofs::PlanningLemmas::pixels_in, crate::proofs::DrawingLemmas::drawn_alone))]
 fn drawing<G: Gate>(
     rt: &(impl Threads + Sync),
     alloc: Global,
     request: &Request,
     picture: &Picture,
     gate: &G,
-) -> Result<(Vec<u8>, Receipt), RunFault>
+) -> Result<(Pieces, Receipt), RunFault>
     requires request { CanReport request.now }
     requires drawn { can_be_drawn request.now.report ≡ true }
     ensures picture { IsReportIn Form.Pgm request.now.tile request.now.report (Input.Picture picture.now) result }
     ensures receipt { IfOk result (λ made. made.1 ≡ receipt_of request.now (Input.Picture picture.now)) }
     ensures hierarchy { IfOk result (λ _. IsHierarchy (graph_of (Input.Picture picture.now))) }
+    ensures components { IfOk result (λ _. HasComponents (component_side request.now.report) (Input.Picture picture.now)) }
 {
     let graph = graph_of(rt, alloc, picture)?;
     let planned = plan_pixels(rt, alloc, picture, &graph, request.tile)?;
-    let (tree, receipt) = tree_of(rt, alloc, &planned, request.workers, gate)?;
+    let (tree, receipt) = tree_of(rt, alloc, &graph, &planned, request.workers, gate)?;
     let report = request.report;
-    let bytes = draw_report(alloc, report, &graph, &planned.order, &tree, picture)?;
-    Ok((bytes, receipt))
+    let pieces = draw_report(alloc, report, &graph, &planned.order, &tree, picture)?;
+    Ok((pieces, receipt))
 }
 
 // The picture of the labels of a report about a picture, whose graph, order and tree these are.
-#[tactic(auto, using(crate::proofs::DrawingLemmas::region_labels))]
 fn draw_report(
     alloc: Global,
     report: Report,
@@ -92,24 +94,49 @@ fn draw_report(
     order: &Order,
     tree: &Tree,
     picture: &Picture,
-) -> Result<Vec<u8>, RunFault>
+) -> Result<Pieces, RunFault>
     requires drawn { can_be_drawn report ≡ true }
-    requires own { CutsOwn report }
     requires graph { graph.now ≡ grid.graph_of picture.now }
     requires order { order.now ≡ order_of graph.now }
     requires tree { IsTreeOf graph.now tree.now }
-    ensures { IsDrawn (labels_of report graph.now) picture.now result }
+    ensures { AreDrawn (labels_of report graph.now) picture.now result }
 {
     match report {
         Report::Watershed => draw_watershed(alloc, graph, order, tree, picture),
-        Report::Cut(_, level) => draw_regions(alloc, tree, level, picture),
+        Report::Cut(kind, level) => {
+            draw_regions(alloc, graph, order, tree, kind, level, picture)
+        }
+        Report::Energy(penalty) => draw_energy_cut(alloc, graph, tree, penalty, picture),
         Report::Tree
         | Report::Zones
         | Report::Saliency
         | Report::Attributes
         | Report::Minima
-        | Report::Summary => unreachable!(),
+        | Report::Hierarchical(_)
+        | Report::Summary
+        | Report::Mintree
+        | Report::Maxtree => unreachable!(),
     }
+}
+
+// The picture of the labels of the regions at a level.
+#[tactic(auto, using(crate::proofs::DrawingLemmas::region_pixels))]
+fn draw_regions(
+    alloc: Global,
+    graph: &Graph,
+    order: &Order,
+    tree: &Tree,
+    kind: Option<Kind>,
+    level: u64,
+    picture: &Picture,
+) -> Result<Pieces, RunFault>
+    requires graph { graph.now ≡ grid.graph_of picture.now }
+    requires order { order.now ≡ order_of graph.now }
+    requires tree { IsTreeOf graph.now tree.now }
+    ensures { IsDrawn (regions (cut_tree kind graph.now) level) picture.now result }
+{
+    let labels = regions(alloc, graph, order, tree, kind, level)?;
+    draw(alloc, &labels, picture)
 }
 
 // The picture of the labels of the watershed cut of a picture, whose graph, order and tree these are.
@@ -119,7 +146,7 @@ fn draw_watershed(
     order: &Order,
     tree: &Tree,
     picture: &Picture,
-) -> Result<Vec<u8>, RunFault>
+) -> Result<Pieces, RunFault>
     requires graph { graph.now ≡ grid.graph_of picture.now }
     requires order { order.now ≡ order_of graph.now }
     requires tree { tree.now ≡ graph_tree graph.now }
@@ -130,30 +157,32 @@ fn draw_watershed(
     draw(alloc, watershed.labels(), picture)
 }
 
-// The picture of the regions of a tree over the pixels of a picture at a level.
-#[tactic(auto, using(crate::proofs::DrawingLemmas::region_pixels))]
-fn draw_regions(
+// The picture of the labels of the least cut of a picture's graph, with a penalty for each region.
+#[tactic(auto, using(crate::proofs::DrawingLemmas::energy_pixels, crate::proofs::EnergyLemmas::least_cut_is))]
+fn draw_energy_cut(
     alloc: Global,
+    graph: &Graph,
     tree: &Tree,
-    level: u64,
+    penalty: u64,
     picture: &Picture,
-) -> Result<Vec<u8>, RunFault>
-    requires rises { AltitudesRise tree.now }
-    requires pixels { tree.now.leaves ≡ picture.now.width * picture.now.height }
-    ensures { IsDrawn (labelling (shares tree.now level) tree.now.leaves) picture.now result }
+) -> Result<Pieces, RunFault>
+    requires graph { graph.now ≡ grid.graph_of picture.now }
+    requires tree { IsTreeOf graph.now tree.now }
+    ensures { IsDrawn (graph_energy_cut graph.now penalty).labels picture.now result }
 {
-    let labels = cut(alloc, tree, level)?;
-    draw(alloc, &labels, picture)
+    let energies = energies(alloc, graph, tree, penalty)?;
+    let cut = least_cut(alloc, tree, &energies)?;
+    draw(alloc, cut.labels(), picture)
 }
 
 // The picture of these labels, one for each pixel of a picture.
 #[tactic(auto, using(crate::proofs::DrawingLemmas::few_labels, crate::proofs::DrawingLemmas::many_labels))]
-fn draw(alloc: Global, labels: &Labels, picture: &Picture) -> Result<Vec<u8>, RunFault>
+fn draw(alloc: Global, labels: &Labels, picture: &Picture) -> Result<Pieces, RunFault>
     requires { picture.now.width * picture.now.height ≡ length labels.now.labels }
     ensures { IsDrawn labels.now picture.now result }
 {
     match write_pgm(alloc, labels, picture.width(), picture.height()) {
-        Ok(bytes) => Ok(bytes),
+        Ok(bytes) => Ok(Pieces::of(alloc, bytes)?),
         Err(LabelFault::TooManyLabels(count)) => Err(RunFault::Input(InputFault {
             kind: FaultKind::TooManyLabels,
             at: 0,

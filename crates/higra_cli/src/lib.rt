@@ -2,9 +2,11 @@
 #![tactic(auto)]
 
 mod command;
+mod components;
 mod decoding;
 mod drawing;
 mod ending;
+mod hierarchies;
 mod input;
 pub mod laws;
 mod line;
@@ -15,13 +17,15 @@ mod reading;
 mod request;
 mod running;
 mod summary;
+mod texts;
 mod words;
 mod writing;
 
 pub use ending::Status;
 pub use input::Input;
 pub use line::{FaultLine, kind_name};
-pub use request::{Form, Kind, Made, Report, Request, WordsFault, request_of};
+pub use extinction::Kind;
+pub use request::{Form, Made, Report, Request, WordsFault, request_of};
 pub use running::run;
 pub use words::Words;
 pub use writing::{RunFault, report};

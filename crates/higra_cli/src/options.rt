@@ -2,10 +2,11 @@
 ghost use Rattle.std.specs.Prelude.{◌≡◌, ◌≤◌, IfSome, None, option_map};
 ghost use Rattle.std.specs.Char.{is_ascii_digit};
 ghost use Rattle.std.specs.List.{list_all};
-ghost use Rattle.higra_cli.specs.Request.{can_be_drawn, form_by, form_named, is_number, kind_by, kind_named, level_by, made_by, number, number_in, seed_by, tile_by, workers_by};
+ghost use Rattle.higra_cli.specs.Request.{can_be_drawn, cut_tree_by, cut_tree_named, form_by, form_named, is_number, kind_by, kind_named, level_by, made_by, number, number_in, seed_by, tile_by, workers_by};
 ghost use Rattle.higra_cli.specs.Running.{CanMake, IsFormOf};
 
-use super::request::{Form, Kind, Made, Report};
+use super::request::{Form, Made, Report};
+use extinction::Kind;
 
 // The most digits of a number.
 const MOST_DIGITS: usize = 20;
@@ -34,26 +35,50 @@ pub(crate) fn workers_by(text: Option<&str>) -> Option<u32>
     }
 }
 
-/// `--kind` of a cut: the tree that is cut. None is the graph's own.
-pub(crate) fn kind_by(text: Option<&str>) -> Option<Option<Kind>>
-    ensures kind { result ≡ kind_by (option_map (λ s. s.now) text.entry) }
-    ensures own { IfSome result (λ kind. kind ≡ None) }
+/// `--kind` of a hierarchical watershed: the attribute by which its minima are compared.
+pub(crate) fn kind_by(text: Option<&str>) -> Option<Kind>
+    ensures { result ≡ kind_by (option_map (λ s. s.now) text.entry) }
 {
     match text {
-        None => Some(None),
+        None => Some(Kind::Dynamics),
         Some(text) => kind_named(text),
     }
 }
 
-// The tree with this name. So far it is the graph's own.
-fn kind_named(text: &str) -> Option<Option<Kind>>
-    ensures kind { result ≡ kind_named text.now }
-    ensures own { IfSome result (λ kind. kind ≡ None) }
+// The attribute with this name.
+fn kind_named(text: &str) -> Option<Kind>
+    ensures { result ≡ kind_named text.now }
 {
-    if text == "altitude" { Some(None) } else { None }
+    match text {
+        "area" => Some(Kind::Area),
+        "volume" => Some(Kind::Volume),
+        "dynamics" => Some(Kind::Dynamics),
+        _ => None,
+    }
 }
 
-/// `--level`: the greatest altitude below which a tree isn't cut.
+/// `--kind` of a cut: the tree that is cut. None is the graph's own.
+pub(crate) fn cut_tree_by(text: Option<&str>) -> Option<Option<Kind>>
+    ensures { result ≡ cut_tree_by (option_map (λ s. s.now) text.entry) }
+{
+    match text {
+        None => Some(None),
+        Some(text) => cut_tree_named(text),
+    }
+}
+
+// The tree with this name that a cut is of.
+fn cut_tree_named(text: &str) -> Option<Option<Kind>>
+    ensures { result ≡ cut_tree_named text.now }
+{
+    if text == "altitude" {
+        Some(None)
+    } else {
+        Some(Some(kind_named(text)?))
+    }
+}
+
+/// `--level`: the greatest altitude below which a tree isn't cut, or the penalty of a region.
 pub(crate) fn level_by(text: Option<&str>) -> Option<u64>
     ensures { result ≡ level_by (option_map (λ s. s.now) text.entry) }
 {
@@ -92,7 +117,10 @@ fn form_named(report: Report, text: &str) -> Option<Form>
 fn can_be_drawn(report: Report) -> bool
     ensures { result ≡ can_be_drawn report }
 {
-    matches!(report, Report::Watershed | Report::Cut(_, _))
+    matches!(
+        report,
+        Report::Watershed | Report::Cut(_, _) | Report::Energy(_)
+    )
 }
 
 /// `--make` and `--seed`: the picture that is made, if one is. A seed needs a side.

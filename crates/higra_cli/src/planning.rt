@@ -1,9 +1,8 @@
 // Planning the tiles of an input.
-ghost use Rattle.std.specs.Prelude.{◌≡◌, ◌≤◌};
-ghost use Rattle.pgm_reader.specs.Grid as grid;
-ghost use Rattle.higra_cli.specs.Planning.{IsPlanned};
+ghost use Rattle.std.specs.Prelude.{◌≡◌, ◌*◌, ◌≤◌, IfOk};
+ghost use Rattle.tile_plan.specs.Plan.{blocks, squares};
+ghost use Rattle.higra_cli.specs.Planning.{IsPlanned, IsPlanOver};
 
-use super::input::Input;
 use super::writing::RunFault;
 use edge_order::Order;
 use hg_base::{FaultKind, Graph, InputFault};
@@ -37,7 +36,7 @@ pub(crate) struct Planned {
     pub(crate) plan: Plan,
 }
 
-/// The plan of an edge list, in blocks of `tile` vertices. The fault is TooManyTiles, with the count, exactly where
+/// The plan of a graph, in blocks of `tile` vertices. The fault is TooManyTiles, with the count, exactly where
 /// there are more than 65,536. Memory may run out.
 #[tactic(auto, using(crate::proofs::PlanningLemmas::planned_is, crate::proofs::PlanningLemmas::plan_refused))]
 pub(crate) fn plan_edges(
@@ -47,14 +46,15 @@ pub(crate) fn plan_edges(
     tile: u32,
 ) -> Result<Planned, RunFault>
     requires { 1 ≤ tile }
-    ensures { IsPlanned tile (Input.Edges graph.now) result }
+    ensures plan { IsPlanned graph.now (blocks graph.now tile) result }
+    ensures over { IfOk result (IsPlanOver graph.now) }
 {
     let order = Order::of(rt, alloc, graph)?;
     let plan = Plan::blocks(alloc, graph, &order, tile)?;
     Ok(Planned { order, plan })
 }
 
-/// The plan of a picture, whose graph is given, in squares of side `tile`. The fault is TooManyTiles, with the count,
+/// The plan of a graph over the pixels of a picture, in squares of side `tile`. The fault is TooManyTiles, with the count,
 /// exactly where there are more than 65,536. Memory may run out.
 #[tactic(auto, using(crate::proofs::PlanningLemmas::planned_is, crate::proofs::PlanningLemmas::plan_refused))]
 pub(crate) fn plan_pixels(
@@ -65,8 +65,9 @@ pub(crate) fn plan_pixels(
     tile: u32,
 ) -> Result<Planned, RunFault>
     requires tile { 1 ≤ tile }
-    requires graph { graph.now ≡ grid.graph_of picture.now }
-    ensures { IsPlanned tile (Input.Picture picture.now) result }
+    requires pixels { picture.now.width * picture.now.height ≡ graph.now.n }
+    ensures plan { IsPlanned graph.now (squares graph.now picture.now.width picture.now.height tile) result }
+    ensures over { IfOk result (IsPlanOver graph.now) }
 {
     let order = Order::of(rt, alloc, graph)?;
     let plan = Plan::squares(

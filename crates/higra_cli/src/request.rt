@@ -3,25 +3,15 @@ ghost use Rattle.std.specs.Prelude.{◌≡◌, IfOk, IfSome};
 ghost use Rattle.clap.specs.Words.{found_of, rows_of};
 ghost use Rattle.higra_cli.specs.Command.{request_in, requested};
 ghost use Rattle.higra_cli.specs.Given.{texts_of};
-ghost use Rattle.higra_cli.specs.Request.{alone, cut_by, report_by, request_by};
-ghost use Rattle.higra_cli.specs.Running.{CanMake, CanReport, CutsOwn};
+ghost use Rattle.higra_cli.specs.Request.{alone, cut_by, energy_by, hierarchical_by, report_by, request_by};
+ghost use Rattle.higra_cli.specs.Running.{CanMake, CanReport};
 
 use super::command::{Given, matches_on, texts_in};
-use super::options::{form_by, kind_by, level_by, made_by, tile_by, workers_by};
+use super::options::{cut_tree_by, form_by, kind_by, level_by, made_by, tile_by, workers_by};
 use super::words::Words;
 use clap::ArgMatches;
+use extinction::Kind;
 use std::alloc::{AllocError, Global};
-
-/// By what a hierarchical watershed orders its minima: an attribute of a node's vertices.
-#[derive(Clone, Copy, Debug, PartialEq, Eq)]
-pub enum Kind {
-    /// The sum of the areas.
-    Area,
-    /// The sum of the heights below the parent's altitude, each times its area.
-    Volume,
-    /// The greatest height below the parent's altitude.
-    Dynamics,
-}
 
 /// What is written about the input.
 #[derive(Clone, Copy, Debug, PartialEq, Eq)]
@@ -38,10 +28,18 @@ pub enum Report {
     Minima,
     /// The watershed cut of the graph: the label of each vertex, the edges of the cut and those of the forest.
     Watershed,
+    /// The hierarchical watershed of the graph by an attribute, and the extinction value of each minimum.
+    Hierarchical(Kind),
+    /// The regions of a tree at a level: of the graph's own tree, or of its hierarchical watershed by an attribute.
+    Cut(Option<Kind>, u64),
     /// Counts and sums of what the other reports write one by one.
     Summary,
-    /// The regions of a tree at a level: of the graph's own tree, or of its hierarchical watershed by a kind.
-    Cut(Option<Kind>, u64),
+    /// The min tree of a picture: the components of its pixels up to each value.
+    Mintree,
+    /// The max tree of a picture: the components of its pixels from each value on.
+    Maxtree,
+    /// The cut of the tree that has least energy, with this penalty for each region.
+    Energy(u64),
 }
 
 /// The form of a report.
@@ -139,8 +137,7 @@ fn request_by(given: &Given) -> Option<Request>
 
 // REPORT, with the options that this report takes.
 fn report_by(given: &Given) -> Option<Report>
-    ensures report { result ≡ report_by (texts_of given.now) }
-    ensures own { IfSome result CutsOwn }
+    ensures { result ≡ report_by (texts_of given.now) }
 {
     match given.report {
         "tree" => alone(given, Report::Tree),
@@ -149,25 +146,48 @@ fn report_by(given: &Given) -> Option<Report>
         "attributes" => alone(given, Report::Attributes),
         "minima" => alone(given, Report::Minima),
         "watershed" => alone(given, Report::Watershed),
-        "summary" => alone(given, Report::Summary),
+        "hierarchical" => hierarchical_by(given),
         "cut" => cut_by(given),
+        "summary" => alone(given, Report::Summary),
+        "mintree" => alone(given, Report::Mintree),
+        "maxtree" => alone(given, Report::Maxtree),
+        "energy" => energy_by(given),
         _ => None,
+    }
+}
+
+// A hierarchical watershed, by its `--kind`.
+fn hierarchical_by(given: &Given) -> Option<Report>
+    ensures { result ≡ hierarchical_by (texts_of given.now) }
+{
+    if given.level.is_some() {
+        None
+    } else {
+        Some(Report::Hierarchical(kind_by(given.kind)?))
     }
 }
 
 // A cut, by its `--kind` and its `--level`.
 fn cut_by(given: &Given) -> Option<Report>
-    ensures cut { result ≡ cut_by (texts_of given.now) }
-    ensures own { IfSome result CutsOwn }
+    ensures { result ≡ cut_by (texts_of given.now) }
 {
-    Some(Report::Cut(kind_by(given.kind)?, level_by(given.level)?))
+    Some(Report::Cut(cut_tree_by(given.kind)?, level_by(given.level)?))
+}
+
+// A cut of least energy, by its `--level`.
+fn energy_by(given: &Given) -> Option<Report>
+    ensures { result ≡ energy_by (texts_of given.now) }
+{
+    if given.kind.is_some() {
+        None
+    } else {
+        Some(Report::Energy(level_by(given.level)?))
+    }
 }
 
 // A report that takes no `--kind` and no `--level`.
 fn alone(given: &Given, report: Report) -> Option<Report>
-    requires { CutsOwn report }
-    ensures alone { result ≡ alone (texts_of given.now) report }
-    ensures own { IfSome result CutsOwn }
+    ensures { result ≡ alone (texts_of given.now) report }
 {
     if given.kind.is_some() || given.level.is_some() {
         None

@@ -10,6 +10,7 @@ use forest_witness::witness;
 use hg_base::{Graph, OutOfMemory, push_headed_line};
 use partition_tree::Tree;
 use quasi_flat_zones::zones;
+use report_lines::Pieces;
 use saliency::saliency;
 use std::alloc::{AllocError, Global};
 use watershed_cut::{Minima, watershed};
@@ -112,11 +113,17 @@ fn saliency_of(graph: &Graph, values: &[u64], e: u32) -> u64
     value
 }
 
-/// The text of a summary: a line for each number, with its word. The error is want of memory.
-pub(crate) fn write_summary(alloc: Global, summary: &Summary) -> Result<Vec<u8>, OutOfMemory>
-    ensures { IfOk result (λ text. text.items ≡ summary_report summary.now) }
+/// The text of a summary, in one piece: a line for each number, with its word. The error is want of memory.
+pub(crate) fn summary_pieces(alloc: Global, summary: &Summary) -> Result<Pieces, OutOfMemory>
+    ensures { IfOk result (λ pieces. pieces ≡ summary_report summary.now) }
 {
-    summary_text(alloc, summary).map_err(|_| OutOfMemory)
+    one_piece(alloc, summary).map_err(|_| OutOfMemory)
+}
+
+fn one_piece(alloc: Global, summary: &Summary) -> Result<Pieces, AllocError>
+    ensures { IfOk result (λ pieces. pieces ≡ summary_report summary.now) }
+{
+    Pieces::of(alloc, summary_text(alloc, summary)?)
 }
 
 fn summary_text(alloc: Global, summary: &Summary) -> Result<Vec<u8>, AllocError>

@@ -62,7 +62,7 @@ fn runs_on(
 fn reports(rt: HostRuntime) -> Result<(), Fail> {
     let triangle = "graph 3 3\n0 1 1\n1 2 1\n0 2 1\n";
     let path = "graph 4 3\n0 1 1\n1 2 5\n2 3 2\n";
-    let rows: [(&[&str], &str, &str); 17] = [
+    let rows: [(&[&str], &str, &str); 29] = [
         (
             &["cut", "--level", "1"],
             path,
@@ -122,6 +122,66 @@ fn reports(rt: HostRuntime) -> Result<(), Fail> {
             &["tree"],
             "P5 2 1 256\n\x01\0\0\x05",
             "tree 3 2\n0 2 0\n1 2 0\n2 2 251\n",
+        ),
+        (
+            &["hierarchical"],
+            "graph 1 0\n",
+            "tree 1 1\n0 0 0\nextinctions 1\n1 0\n",
+        ),
+        (
+            &["hierarchical", "--kind", "dynamics"],
+            path,
+            "tree 7 4\n0 4 0\n1 4 0\n2 5 0\n3 5 0\n4 6 0\n5 6 0\n6 6 3\nextinctions 2\n1 4\n2 3\n",
+        ),
+        (
+            &["hierarchical", "--kind=volume"],
+            path,
+            "tree 7 4\n0 4 0\n1 4 0\n2 5 0\n3 5 0\n4 6 0\n5 6 0\n6 6 6\nextinctions 2\n1 14\n2 6\n",
+        ),
+        (
+            &["--kind", "area", "hierarchical"],
+            path,
+            "tree 7 4\n0 4 0\n1 4 0\n2 5 0\n3 5 0\n4 6 0\n5 6 0\n6 6 2\nextinctions 2\n1 4\n2 2\n",
+        ),
+        (
+            &["cut", "--kind", "dynamics", "--level", "2"],
+            path,
+            "labels 4 2\n0 1\n1 1\n2 2\n3 2\n",
+        ),
+        (
+            &["cut", "--kind", "dynamics", "--level", "3"],
+            path,
+            "labels 4 1\n0 1\n1 1\n2 1\n3 1\n",
+        ),
+        (
+            &["cut", "--kind", "area", "--form", "pgm"],
+            "P5\n2 2\n9\n\0\x03\x03\t",
+            "P5\n2 2\n1\n\x01\x01\x01\x01",
+        ),
+        (
+            &["mintree"],
+            "P5\n2 2\n9\n\0\x03\x03\t",
+            "mintree 7 4\n0 4 0\n1 5 3\n2 5 3\n3 6 9\n4 5 0\n5 6 3\n6 6 9\n",
+        ),
+        (
+            &["maxtree"],
+            "P5\n2 2\n9\n\0\x03\x03\t",
+            "maxtree 7 4\n0 6 0\n1 5 3\n2 5 3\n3 4 9\n4 5 9\n5 6 3\n6 6 0\n",
+        ),
+        (
+            &["energy", "--level", "2"],
+            path,
+            "energy 4 3 8\nnode 2 2\nnode 3 2\nnode 4 4\nv 0 1\nv 1 1\nv 2 2\nv 3 3\n",
+        ),
+        (
+            &["energy", "--level", "14"],
+            path,
+            "energy 4 1 34\nnode 6 34\nv 0 1\nv 1 1\nv 2 1\nv 3 1\n",
+        ),
+        (
+            &["energy", "--level", "100", "--form", "pgm"],
+            "P5\n2 2\n9\n\0\x03\x03\t",
+            "P5\n2 2\n1\n\x01\x01\x01\x01",
         ),
         // The weights are 34, 69, 86 and 51; the source isn't read.
         (
@@ -195,7 +255,7 @@ fn faults_of_the_input(rt: HostRuntime) -> Result<(), Fail> {
 // Words, and an input of which their report can't be made: the first cause is told.
 #[test]
 fn reports_that_are_refused(rt: HostRuntime) -> Result<(), Fail> {
-    let rows: [(&[&str], &str, &str); 5] = [
+    let rows: [(&[&str], &str, &str); 9] = [
         (
             &["cut", "--level", "1", "--form", "pgm"],
             "graph 1 0\n",
@@ -205,6 +265,26 @@ fn reports_that_are_refused(rt: HostRuntime) -> Result<(), Fail> {
             &["cut", "--form", "pgm", "--tile", "1"],
             "graph 65537 0\n",
             "higra: input 11 NotAPicture at 0 value 0\n",
+        ),
+        (
+            &["mintree"],
+            "graph 3 2\n0 1 5\n1 2 3\n",
+            "higra: input 11 NotAPicture at 0 value 0\n",
+        ),
+        (
+            &["maxtree", "--tile", "1"],
+            "graph 65537 0\n",
+            "higra: input 11 NotAPicture at 0 value 0\n",
+        ),
+        (
+            &["energy", "--form", "pgm"],
+            "graph 4 3\n0 1 1\n1 2 5\n2 3 2\n",
+            "higra: input 11 NotAPicture at 0 value 0\n",
+        ),
+        (
+            &["mintree", "--make", "512", "--tile", "1"],
+            "",
+            "higra: input 12 TooManyTiles at 0 value 262144\n",
         ),
         (
             &["tree", "--tile", "1"],
@@ -279,7 +359,7 @@ fn asks_for_nothing(
 
 #[test]
 fn words_that_give_no_request(rt: HostRuntime) -> Result<(), Fail> {
-    let rows: [&[&str]; 47] = [
+    let rows: [&[&str]; 53] = [
         &[],
         &[""],
         &["forest"],
@@ -319,6 +399,12 @@ fn words_that_give_no_request(rt: HostRuntime) -> Result<(), Fail> {
         &["watershed", "--level", "0"],
         &["summary", "--form", "pgm"],
         &["hierarchical", "--kind", "altitude"],
+        &["hierarchical", "--level", "0"],
+        &["hierarchical", "--form", "pgm"],
+        &["cut", "--kind", "height"],
+        &["energy", "--kind", "area"],
+        &["mintree", "--form", "pgm"],
+        &["maxtree", "--level", "0"],
         &["cut", "--level", "1x"],
         &["tree", "--report", "tree"],
         &["tree", "--help"],

@@ -3,7 +3,8 @@
 ghost use Rattle.std.specs.Prelude.{◌≡◌, [], ◌∷◌, Some, None, codes};
 ghost use Rattle.higra_cli.specs.Command.{given_by, requested};
 ghost use Rattle.higra_cli.specs.Worked.{only, text_in, tree_in};
-ghost use Rattle.higra_cli.specs.declared.request.Report.TheVariants.{Attributes, Minima, Summary, Watershed};
+ghost use Rattle.extinction.specs.declared.kind.Kind.TheVariants.{Area, Dynamics, Volume};
+ghost use Rattle.higra_cli.specs.declared.request.Report.TheVariants.{Attributes, Cut, Energy, Hierarchical, Maxtree, Minima, Mintree, Summary, Watershed};
 
 // An option stands before the report or behind it; its text is the next word, or what follows a `=`. A `--` alone counts for nothing.
 #[tactic(auto, unfolding(clap::proofs::OnLiterals::clap_on_literals, crate::specs::Command::higra, crate::specs::Command::rows_on, crate::specs::Command::with_option, crate::specs::Command::with_report))]
@@ -54,6 +55,13 @@ fn requests()
     ensures minima { requested (codes "--form=text" ∷ codes "minima" ∷ []) ≡ Some (text_in 64 4 Minima) }
     ensures watershed { requested (codes "watershed" ∷ codes "--workers" ∷ codes "2" ∷ []) ≡ Some (text_in 64 2 Watershed) }
     ensures summary { requested (codes "summary" ∷ []) ≡ Some (text_in 64 4 Summary) }
+    ensures hierarchical { requested (codes "hierarchical" ∷ []) ≡ Some (text_in 64 4 (Hierarchical Dynamics)) }
+    ensures by_area { requested (codes "hierarchical" ∷ codes "--kind=area" ∷ []) ≡ Some (text_in 64 4 (Hierarchical Area)) }
+    ensures cut { requested (codes "cut" ∷ codes "--kind=altitude" ∷ codes "--level=3" ∷ []) ≡ Some (text_in 64 4 (Cut None 3)) }
+    ensures cut_by_volume { requested (codes "cut" ∷ codes "--kind=volume" ∷ []) ≡ Some (text_in 64 4 (Cut (Some Volume) 0)) }
+    ensures energy { requested (codes "energy" ∷ codes "--level=2" ∷ []) ≡ Some (text_in 64 4 (Energy 2)) }
+    ensures mintree { requested (codes "mintree" ∷ []) ≡ Some (text_in 64 4 Mintree) }
+    ensures maxtree { requested (codes "maxtree" ∷ []) ≡ Some (text_in 64 4 Maxtree) }
 {}
 
 // A text out of its row, and an option that the report doesn't take, ask for nothing.
@@ -71,6 +79,9 @@ fn refused_texts()
     ensures level_of_attributes { requested (codes "attributes" ∷ codes "--level" ∷ codes "0" ∷ []) ≡ None }
     ensures kind_of_minima { requested (codes "minima" ∷ codes "--kind" ∷ codes "altitude" ∷ []) ≡ None }
     ensures picture_of_minima { requested (codes "minima" ∷ codes "--form" ∷ codes "pgm" ∷ []) ≡ None }
+    ensures kind_of_hierarchical { requested (codes "hierarchical" ∷ codes "--kind=altitude" ∷ []) ≡ None }
+    ensures kind_of_energy { requested (codes "energy" ∷ codes "--kind=area" ∷ []) ≡ None }
+    ensures picture_of_mintree { requested (codes "mintree" ∷ codes "--form=pgm" ∷ []) ≡ None }
 {}
 
 #[test]

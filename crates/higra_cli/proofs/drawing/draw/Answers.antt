@@ -7,10 +7,11 @@ pub write_pgm-requires-clause-pixels : goal.write_pgm-requires-clause-pixels
 write_pgm-requires-clause-pixels c =
     ap (λ (n : ℕ). n * c.height.result) c.width.ensures.value ∙ ap (λ (n : ℕ). c.args.picture.now.width * n) c.height.ensures.value ∙ c.requires
 
-pub returns-in-Ok : goal.returns-in-Ok
-returns-in-Ok c = (
+pub returns-in_ok-of-in-Ok : goal.returns-in_ok-of-in-Ok
+returns-in_ok-of-in-Ok c = (
   few_labels c.args.labels.now.count (λ more. let wrong = c.in-Ok.ensures.too_many.1 more in cc),
-  c.in-Ok.ensures.picture
+  c.in_ok-of-in-Ok.ensures
+      ∙ c.in-Ok.ensures.picture
       ∙ ap (λ (n : ℕ). labels_picture c.args.labels.now n c.height.result) c.width.ensures.value
       ∙ ap (λ (n : ℕ). labels_picture c.args.labels.now c.args.picture.now.width n) c.height.ensures.value,
 )

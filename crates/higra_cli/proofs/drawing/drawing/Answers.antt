@@ -1,38 +1,40 @@
-use Rattle.std.proofs.Common.{◌≡◌, ℕ, Err, ap, subst, sym, ◌∙◌}
-use Rattle.std.specs.Prelude.{Result, Vec}
-use Rattle.std.specs.declared.alloc.Global.{Global}
+use Rattle.std.proofs.Common.{◌≡◌, ℕ, Err, subst, sym, ◌∙◌}
+use Rattle.std.specs.Prelude.{List, Result, Ok}
 use Rattle.std.proofs.lemmas.Result.{err_from_is_err_and}
-use Rattle.edge_order.specs.Order.{order_of}
+use Rattle.hg_base.specs.Graph.{WeightedGraph}
 use Rattle.merge_board.specs.Seats.{ReceiptState}
-use Rattle.higra_cli.proofs.DrawingLemmas.{drawn_fault, drawn_report}
+use Rattle.higra_cli.proofs.DrawingLemmas.{drawn_alone, drawn_fault, drawn_report}
 use Rattle.higra_cli.proofs.OrderedLemmas.{is_hierarchy}
-use Rattle.higra_cli.proofs.PlanningLemmas.{receipt_is}
-use Rattle.higra_cli.specs.Inputs.{graph_of}
-use Rattle.higra_cli.specs.Reports.{IsReportIn, labels_of}
+use Rattle.higra_cli.proofs.PlanningLemmas.{edges_in, pixels_in, receipt_squares}
+use Rattle.higra_cli.specs.Reports.{IsReportIn}
+use Rattle.higra_cli.specs.Running.{IsHierarchy}
 use Rattle.higra_cli.specs.declared.input.Input.TheVariants.{Picture}
 use Rattle.higra_cli.specs.declared.request.Form.TheVariants.{Pgm}
 use Rattle.higra_cli.specs.declared.writing.RunFault.{RunFault}
 use Rattle.higra_cli.proofs.drawing.drawing.Goals as goal
 
-pub draw_report-requires-clause-tree : goal.draw_report-requires-clause-tree
-draw_report-requires-clause-tree g c = c.in_ok-tree.ensures.tree c.in_ok-graph.graph (c.in_ok-planned.ensures.order ∙ ap order_of (sym c.in_ok-graph.ensures))
+pub plan_pixels-requires-clause-pixels : goal.plan_pixels-requires-clause-pixels
+plan_pixels-requires-clause-pixels g c κs within = pixels_in c.args.picture.now c.in_ok-graph.graph c.in_ok-graph.ensures
 
-pub returns-in_err-bytes-clause-picture : goal.returns-in_err-bytes-clause-picture
-returns-in_err-bytes-clause-picture g c =
-    let p = err_from_is_err_and c.from_residual-in_err-bytes.result c.from_residual-in_err-bytes.ensures.1 in
-    let same : c.in_err-bytes.field-0.0 ≡ p.0 = cc in
-    subst (λ (r : Result (Vec ℕ Global × ReceiptState) RunFault). IsReportIn Pgm c.args.request.now.tile c.args.request.now.report (Picture c.args.picture.now) r) (sym p.1)
+pub returns-in_err-pieces-clause-picture : goal.returns-in_err-pieces-clause-picture
+returns-in_err-pieces-clause-picture g c =
+    let p = err_from_is_err_and c.from_residual-in_err-pieces.result c.from_residual-in_err-pieces.ensures.1 in
+    let same : c.in_err-pieces.field-0.0 ≡ p.0 = cc in
+    subst (λ (r : Result (List ℕ × ReceiptState) RunFault). IsReportIn Pgm c.args.request.now.tile c.args.request.now.report (Picture c.args.picture.now) r) (sym p.1)
     (subst (λ (f : RunFault). IsReportIn Pgm c.args.request.now.tile c.args.request.now.report (Picture c.args.picture.now) (Err f)) same
-    (drawn_fault c.args.picture.now c.args.request.now.report c.args.request.now.tile (labels_of c.args.request.now.report c.in_ok-graph.graph) c.in_err-bytes.field-0.0
-    c.in_ok-planned.ensures.few (ap (labels_of c.args.request.now.report) c.in_ok-graph.ensures) c.in_err-bytes.ensures))
+    (drawn_fault c.args.picture.now c.args.request.now.tile c.args.request.now.report c.in_ok-graph.graph c.in_err-pieces.field-0.0 c.in_ok-planned.ensures.plan.few c.in_ok-graph.ensures c.in_err-pieces.ensures))
 
 pub returns-clause-picture : goal.returns-clause-picture
 returns-clause-picture g c =
-    drawn_report c.args.picture.now c.args.request.now.report c.args.request.now.tile (labels_of c.args.request.now.report c.in_ok-graph.graph) c.in_ok-bytes.bytes.items
-    c.in_ok-planned.ensures.few (ap (labels_of c.args.request.now.report) c.in_ok-graph.ensures) c.in_ok-bytes.ensures.0 c.in_ok-bytes.ensures.1
+    drawn_report c.args.picture.now c.args.request.now.tile c.args.request.now.report c.in_ok-graph.graph (Ok c.in_ok-pieces.pieces) c.in_ok-planned.ensures.plan.few c.in_ok-graph.ensures c.in_ok-pieces.ensures
 
 pub returns-clause-receipt : goal.returns-clause-receipt
-returns-clause-receipt g c = c.in_ok-tree.ensures.receipt ∙ receipt_is c.args.request.now (Picture c.args.picture.now) c.in_ok-planned.planned c.in_ok-planned.ensures
+returns-clause-receipt g c =
+    c.in_ok-tree.ensures.receipt
+    ∙ receipt_squares c.args.request.now c.args.picture.now c.in_ok-graph.graph c.in_ok-planned.planned c.in_ok-planned.ensures.plan (edges_in c.args.picture.now c.in_ok-graph.graph c.in_ok-graph.ensures)
 
 pub returns-clause-hierarchy : goal.returns-clause-hierarchy
-returns-clause-hierarchy g c = is_hierarchy _ c.in_ok-tree.tree (c.in_ok-tree.ensures.tree (graph_of (Picture c.args.picture.now)) c.in_ok-planned.ensures.order)
+returns-clause-hierarchy g c = subst (λ (h : WeightedGraph). IsHierarchy h) c.in_ok-graph.ensures (is_hierarchy _ c.in_ok-tree.tree c.in_ok-tree.ensures.tree)
+
+pub returns-clause-components : goal.returns-clause-components
+returns-clause-components g c = drawn_alone c.args.request.now.report (Picture c.args.picture.now) c.requires.drawn

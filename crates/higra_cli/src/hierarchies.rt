@@ -125,11 +125,7 @@ pub(crate) fn energies(
 }
 
 // The areas of the nodes of a tree.
-fn node_areas(
-    alloc: Global,
-    tree: &Tree,
-    attributes: &Attributes,
-) -> Result<Vec<u64>, OutOfMemory>
+fn node_areas(alloc: Global, tree: &Tree, attributes: &Attributes) -> Result<Vec<u64>, OutOfMemory>
     requires { length attributes.now.areas ≡ nodes tree.now }
     ensures { IfOk result (λ areas. areas.items ≡ attributes.now.areas) }
 {
@@ -137,11 +133,7 @@ fn node_areas(
 }
 
 #[tactic(auto, using(crate::proofs::EnergyLemmas::areas_more))]
-fn areas_of(
-    alloc: Global,
-    tree: &Tree,
-    attributes: &Attributes,
-) -> Result<Vec<u64>, AllocError>
+fn areas_of(alloc: Global, tree: &Tree, attributes: &Attributes) -> Result<Vec<u64>, AllocError>
     requires { length attributes.now.areas ≡ nodes tree.now }
     ensures { IfOk result (λ areas. areas.items ≡ attributes.now.areas) }
 {

@@ -22,9 +22,9 @@ mod words;
 mod writing;
 
 pub use ending::Status;
+pub use extinction::Kind;
 pub use input::Input;
 pub use line::{FaultLine, kind_name};
-pub use extinction::Kind;
 pub use request::{Form, Made, Report, Request, WordsFault, request_of};
 pub use running::run;
 pub use words::Words;

@@ -59,9 +59,7 @@ pub(crate) fn text_of(
         Report::Tree => tree_pieces(rt, alloc, tree),
         Report::Zones => zones_text(rt, alloc, graph, tree),
         Report::Saliency => saliency_pieces(rt, alloc, &saliency(alloc, graph, tree)?),
-        Report::Attributes => {
-            attributes_pieces(rt, alloc, &Attributes::of(alloc, graph, tree)?)
-        }
+        Report::Attributes => { attributes_pieces(rt, alloc, &Attributes::of(alloc, graph, tree)?) }
         Report::Minima => minima_pieces(rt, alloc, &Minima::of(alloc, graph, order, tree)?),
         Report::Watershed => watershed_text(rt, alloc, graph, order, tree),
         Report::Hierarchical(kind) => hierarchical_text(rt, alloc, graph, order, tree, kind),

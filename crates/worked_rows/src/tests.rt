@@ -418,7 +418,14 @@ fn the_program_and_the_definitions_agree_on_component_trees(rt: HostRuntime) -> 
         let tiling = TILINGS[seed as usize % TILINGS.len()];
         for (word, side) in SIDES {
             let want = components_of(rt.alloc(), width, &samples, side)?;
-            runs(&rt, rt.alloc(), &[word], tiling, picture.as_str(), want.as_str())?;
+            runs(
+                &rt,
+                rt.alloc(),
+                &[word],
+                tiling,
+                picture.as_str(),
+                want.as_str(),
+            )?;
         }
     }
     Ok(())

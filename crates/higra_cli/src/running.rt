@@ -15,11 +15,10 @@ use super::line::FaultLine;
 use super::reading::read_input;
 use super::request::{Made, Request, request_of};
 use super::words::Words;
-use super::writing::{RunFault, report_in_pieces};
+use super::writing::{RunFault, report};
 use hg_base::{Gate, Sink, Source, write_all};
 use merge_board::Receipt;
 use pgm_reader::make_picture;
-use report_lines::write_pieces;
 use std::alloc::Global;
 use std::thread::Threads;
 
@@ -106,7 +105,7 @@ fn work<S: Source, K: Sink, G: Gate>(
 }
 
 // Makes the report that is asked for and writes it.
-#[tactic(auto, using(crate::proofs::RunningLemmas::reports_written), unfolding(crate::specs::Reports::refusal, crate::specs::Reports::report_of))]
+#[tactic(auto, using(crate::proofs::RunningLemmas::reports_written))]
 fn write_report<K: Sink, G: Gate>(
     rt: &(impl Threads + Sync),
     alloc: Global,
@@ -121,8 +120,8 @@ fn write_report<K: Sink, G: Gate>(
     ensures asked { IfErr result (λ status. status ≢ Status.Usage) }
     ensures unwritten { IfErr result (λ status. status ≢ Status.WriteFailed → out.new ≡ out.old) }
 {
-    match report_in_pieces(rt, alloc, request, input, gate) {
-        Ok((pieces, receipt)) => match write_pieces(out, &pieces) {
+    match report(rt, alloc, request, input, gate) {
+        Ok((bytes, receipt)) => match write_all(out, &bytes) {
             Ok(()) => Ok(receipt),
             Err(_) => Err(Status::WriteFailed),
         },

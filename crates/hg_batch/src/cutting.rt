@@ -1,5 +1,5 @@
 // The pieces of an input, each read as an edge list.
-ghost use Rattle.std.specs.Prelude.{◌≡◌, ◌==◌, ◌≤◌, IfOk, count_by, length};
+ghost use Rattle.std.specs.Prelude.{◌≡◌, ◌==◌, ◌<◌, ◌≤◌, [], ◌∷◌, ◌++◌, IfOk, IfSome, OnOk, count_by, length, position};
 ghost use Rattle.hg_batch.specs.Pieces.{all_vertices, pieces, reading, readings, vertices};
 ghost use Rattle.hg_batch.specs.Cutting.{reads, values};
 
@@ -43,14 +43,31 @@ pub(crate) fn read_pieces(alloc: Global, bytes: &[u8]) -> Result<Vec<Piece>, Out
 {
     let mut read = Vec::new(alloc);
     let mut rest = bytes;
-    while let Some(end) = rest.iter().position(|byte| *byte == FORM_FEED) {
-        let piece = read_piece(alloc, &rest[..end])?;
-        read.push(piece).map_err(|_| OutOfMemory)?;
+    while let Some(end) = cut_at(rest) {
+        push_piece(alloc, &mut read, &rest[..end])?;
         rest = &rest[end + 1..];
     }
-    let piece = read_piece(alloc, rest)?;
-    read.push(piece).map_err(|_| OutOfMemory)?;
+    push_piece(alloc, &mut read, rest)?;
     Ok(read)
+}
+
+// Where the first form feed is, if there is one.
+fn cut_at(bytes: &[u8]) -> Option<usize>
+    ensures first { result ≡ position (λ b. b == 12) bytes.now }
+    ensures within { IfSome result (λ end. end < length bytes.now) }
+{
+    bytes.iter().position(|byte| *byte == FORM_FEED)
+}
+
+// Reads one piece and puts it at the end of those that were read.
+#[tactic(auto, using(crate::proofs::PieceLemmas::values_push))]
+fn push_piece(alloc: Global, read: &mut Vec<Piece>, bytes: &[u8]) -> Result<(), OutOfMemory>
+    requires { length bytes.now ≤ 134217728 }
+    ensures { OnOk result (values read.new.items ≡ values read.old.items ++ (reading bytes.now ∷ [])) }
+{
+    let piece = read_piece(alloc, bytes)?;
+    read.push(piece).map_err(|_| OutOfMemory)?;
+    Ok(())
 }
 
 // Reads one piece.

@@ -1,5 +1,5 @@
 -- What a batch leaves behind, by how it ended.
-use Rattle.std.specs.Prelude.{◌≡◌, ◌⊎◌, ℕ, List, Option, Some, None, Result, Ok, Err, MatchResult, Vec}
+use Rattle.std.specs.Prelude.{◌≡◌, ◌⊎◌, ℕ, nat_lt, if◌then◌else◌, List, length, Option, Some, None, Result, Ok, Err, MatchResult, Vec}
 use Rattle.std.specs.declared.alloc.Global.{Global}
 use Rattle.std.specs.Io.KnownBytes.{Appends}
 use Rattle.hg_base.specs.Outside.{Rose, AppendsPrefix}
@@ -75,3 +75,17 @@ MakesText q bytes (Err statuses.Success) = ⊥
 MakesText q bytes (Err statuses.Usage) = ⊥
 MakesText q bytes (Err statuses.ReadFailed) = ⊥
 MakesText q bytes (Err statuses.WriteFailed) = ⊥
+
+-- the status of a batch that is refused for this reason, or isn't
+abbrev pub status_by : Option InputFault → BatchStatus
+status_by None = statuses.Success
+status_by (Some fault) = statuses.Input fault
+
+-- the status of a batch whose source has these bytes, where nothing fails
+unfoldable pub answer_of : List ℕ → BatchStatus
+answer_of bytes = if nat_lt 134217728 (length bytes) then statuses.Input too_long else status_by (batch_fault bytes)
+
+-- the status for these bytes; or memory ran out, or the texts that they ask for weren't written
+abbrev pub IsAnswerTo : List ℕ → BatchStatus → Type 0
+IsAnswerTo bytes status =
+    (status ≡ answer_of bytes) ⊎ ((status ≡ statuses.OutOfMemory) ⊎ ((status ≡ statuses.WriteFailed) × (answer_of bytes ≡ statuses.Success)))

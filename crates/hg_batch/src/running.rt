@@ -5,9 +5,10 @@ ghost use Rattle.hg_base.specs.Outside.{AppendsPrefix, Rose};
 ghost use Rattle.hg_base.specs.declared.fault.InputFault.{InputFault};
 ghost use Rattle.higra_cli.specs.Reading.{GaveAtMost, told};
 ghost use Rattle.higra_cli.specs.Running.{CanReport, StoodStill};
+ghost use Rattle.higra_cli.specs.declared.request.Request.{Request};
 ghost use Rattle.hg_batch.specs.Batch.{batch_fault, batch_text};
 ghost use Rattle.hg_batch.specs.Ending.{batch_line};
-ghost use Rattle.hg_batch.specs.Running.{Batches, Ends, EndsWork, HasFault, MakesText, batch_request};
+ghost use Rattle.hg_batch.specs.Running.{Batches, Ends, EndsWork, HasFault, IsAnswerTo, MakesText, batch_request};
 ghost use Rattle.hg_batch.specs.declared.ending.BatchStatus.TheVariants as statuses;
 
 use super::batch::Batch;
@@ -33,6 +34,7 @@ const MOST_VERTICES: u64 = 4_194_304;
 /// The refusals come in this order: the words; each read, its failure first and then an input that is too long; too many
 /// jobs; too many vertices in all; the writes. Memory may run out at any point before the first byte of `out` is written.
 /// A failure of `err` changes nothing.
+#[tactic(auto, using(crate::proofs::RunningLemmas::complete_from))]
 pub fn run_batch<S: Source, K: Sink, E: Sink>(
     rt: &(impl Threads + Sync),
     alloc: Global,
@@ -55,6 +57,9 @@ pub fn run_batch<S: Source, K: Sink, E: Sink>(
     ensures read_fault { S.faults source.old < S.faults source.new → (result ≡ BatchStatus.ReadFailed) ⊎ (result ≡ BatchStatus.OutOfMemory) }
     ensures input { (fault : InputFault) → result ≡ BatchStatus.Input fault → HasFault (S.left source.old) (S.left source.new) fault }
 
+    // Where the source tells its bytes and no read fails, the status is the one for these bytes.
+    ensures complete { (request : Request) (bytes : List ℕ) → batch_request words.now ≡ Some request → S.left source.old ≡ Some bytes → StoodStill (S.faults source.old) (S.faults source.new) → IsAnswerTo bytes result }
+
     // The texts.
     ensures success { result ≡ BatchStatus.Success → Batches words.now (S.left source.old) (S.left source.new) (Appends (K.content out.old) (K.content out.new)) }
     ensures begun { result ≡ BatchStatus.WriteFailed → Batches words.now (S.left source.old) (S.left source.new) (AppendsPrefix (K.content out.old) (K.content out.new)) }
@@ -72,7 +77,7 @@ pub fn run_batch<S: Source, K: Sink, E: Sink>(
     match work(rt, alloc, words, source, out) {
         Ok(()) => BatchStatus::Success,
         Err(status) => {
-            let _ = write_all(err, line_of(status).as_bytes());
+            tell(status, err);
             status
         }
     }
@@ -99,6 +104,16 @@ fn work<S: Source, K: Sink>(
         Ok(()) => Ok(()),
         Err(_) => Err(BatchStatus::WriteFailed),
     }
+}
+
+// Writes the fault line of the status, as far as the sink takes it.
+fn tell<E: Sink>(status: BatchStatus, err: &mut E)
+    requires { status ≢ statuses.Success }
+    ensures line { AppendsPrefix (E.content err.old) (E.content err.new) (batch_line status) }
+    ensures whole_line { StoodStill (E.faults err.old) (E.faults err.new) → Appends (E.content err.old) (E.content err.new) (batch_line status) }
+{
+    let line = line_of(status);
+    let _ = write_all(err, line.as_bytes());
 }
 
 // The request that the words give, if a batch can be asked for it.

@@ -7,5 +7,5 @@ index-requires g c = omega (arith, c.requires.job, length-texts c.self.inside c.
 
 pub returns : goal.returns
 returns g c =
-    let within = omega (arith, c.requires.job, length-texts c.self.inside c.args.self.now c.self.view_is) in
-    made_text _ _ _ (text_at c.self.inside c.args.self.now c.args.job c.index.result.now c.self.view_is within c.index.ensures) c.text_of.ensures
+    let at = text_at c.self.inside c.args.self.now c.args.job c.index.result.now c.self.view_is (omega (arith, c.requires.job, length-texts c.self.inside c.args.self.now c.self.view_is)) c.index.ensures in
+    made_text _ _ _ at c.text_of.ensures

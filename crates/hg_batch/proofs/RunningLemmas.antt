@@ -1,7 +1,8 @@
 -- What the ends of a batch come to.
 use Rattle.std.proofs.Common.{◌≡◌, inl, inr, ℕ, ◌+◌, ◌<◌, ◌≤◌, List, [], ◌∷◌, length, Option, Some, None, Result, Ok, Err, Vec, refl, sym, ap, ◌∙◌, subst, arith}
 use Rattle.std.proofs.lemmas.Bool.{lt-ltb, le-ltb}
-use Rattle.std.specs.Prelude.{IfOk}
+use Rattle.std.proofs.lemmas.List.{length-map}
+use Rattle.std.specs.Prelude.{IsErrAnd}
 use Rattle.std.specs.List.{concat}
 use Rattle.std.specs.declared.alloc.Global.{Global}
 use Rattle.hg_base.specs.Outside.{Rose}
@@ -14,23 +15,28 @@ use Rattle.higra_cli.specs.Reports.{◌before◌}
 use Rattle.higra_cli.specs.Running.{StoodStill}
 use Rattle.higra_cli.specs.declared.input.Input.{Input}
 use Rattle.higra_cli.specs.declared.request.Request.{Request}
-use Rattle.hg_batch.proofs.PieceLemmas.{count_pieces, is_cut}
-use Rattle.hg_batch.proofs.TextLemmas.{texts_by_one}
+use Rattle.hg_batch.proofs.PieceLemmas.{count_pieces}
+use Rattle.hg_batch.proofs.TextLemmas.{length-texts_from, texts_by_one}
 use Rattle.hg_batch.specs.Batch.{batch_fault, batch_text, job_fault, texts_from, vertex_fault}
 use Rattle.hg_batch.specs.Getting.{Gets}
-use Rattle.hg_batch.specs.Pieces.{all_vertices, pieces, readings}
-use Rattle.hg_batch.specs.Running.{Ends, HasFault, IsAnswerTo, MakesText, answer_of, batch_request, status_by}
+use Rattle.hg_batch.specs.Pieces.{all_vertices, pieces, reading, readings}
+use Rattle.hg_batch.specs.Running.{Ends, EndsWork, HasFault, IsAnswerTo, MakesText, answer_of, batch_request, status_by}
 use Rattle.hg_batch.specs.declared.ending.BatchStatus.{BatchStatus}
 use Rattle.hg_batch.specs.declared.ending.BatchStatus.TheVariants as statuses
 
 -- what ended the reading of the source ends the batch
-pub Ends-read : (words : List (List ℕ)) (request : Request) (old new out : Told) (status : BatchStatus) → batch_request words ≡ Some request → Gets old new (Err status) → Ends words old new out out status
+Ends-read : (words : List (List ℕ)) (request : Request) (old new out : Told) (status : BatchStatus) → batch_request words ≡ Some request → Gets old new (Err status) → Ends words old new out out status
 Ends-read words request old new out (statuses.Input fault) asked gets = ((request, asked), (gets.1.0, inl gets.1.1), gets.0, refl)
 Ends-read words request old new out statuses.ReadFailed asked gets = ((request, asked), gets, refl)
 Ends-read words request old new out statuses.OutOfMemory asked gets = refl
 Ends-read words request old new out statuses.Success asked gets = absurd gets
 Ends-read words request old new out statuses.Usage asked gets = absurd gets
 Ends-read words request old new out statuses.WriteFailed asked gets = absurd gets
+
+-- and a result with this status as its error says so
+pub EndsWork-read : (words : List (List ℕ)) (request : Request) (old new out : Told) (status : BatchStatus) (result : Result (Unit {0}) BatchStatus) → batch_request words ≡ Some request → Gets old new (Err status) → IsErrAnd result (λ e. e ≡ status) → EndsWork words old new out out result
+EndsWork-read words request old new out status (Ok x) asked gets is = absurd is
+EndsWork-read words request old new out status (Err e) asked gets is = subst (λ (s : BatchStatus). Ends words old new out out s) (sym is) (Ends-read words request old new out status asked gets)
 
 -- up to 4,096 pieces are no fault, and more are
 few_jobs : (count : ℕ) → count ≤ 4096 → job_fault count ≡ None
@@ -78,6 +84,17 @@ pub batch_text-by_one : (request : Request) (workers : ℕ) (bytes : List ℕ) (
 batch_text-by_one request workers bytes rs are =
     ap (λ (ts : List (List ℕ)). concat ts) (texts_by_one request workers 0 rs) ∙ ap (λ (ss : List (Result Input InputFault)). concat (texts_from request 0 ss)) are
 
+-- there are as many texts as pieces
+count_of_texts : (request : Request) (bytes : List ℕ) (rs : List (Result Input InputFault)) → rs ≡ readings bytes → length (texts_from request 0 rs) ≡ length (pieces bytes)
+count_of_texts request bytes rs are = length-texts_from request 0 rs ∙ ap (λ (ss : List (Result Input InputFault)). length ss) are ∙ length-map (pieces bytes) reading
+
+-- so there is one at least, and as few as pieces at most
+pub some_texts : (request : Request) (bytes : List ℕ) (rs : List (Result Input InputFault)) → rs ≡ readings bytes → 1 ≤ length (texts_from request 0 rs)
+some_texts request bytes rs are = omega (arith, count_of_texts request bytes rs are, count_pieces bytes)
+
+pub few_texts : (request : Request) (bytes : List ℕ) (rs : List (Result Input InputFault)) (count : ℕ) → rs ≡ readings bytes → count ≡ length (pieces bytes) → count ≤ 4096 → length (texts_from request 0 rs) ≤ 4096
+few_texts request bytes rs count are have few = omega (arith, count_of_texts request bytes rs are, have, few)
+
 -- a short input has the status of its pieces
 answer-short : (bytes : List ℕ) → length bytes ≤ 134217728 → answer_of bytes ≡ status_by (batch_fault bytes)
 unfolding answer_of
@@ -114,6 +131,6 @@ complete_from words request bytes old new out out' statuses.OutOfMemory ends ask
 complete_from words request bytes old new out out' statuses.Usage ends asked told still = cc
 complete_from words request bytes old new out out' statuses.ReadFailed ends asked told still = absurd (risen old.faults new.faults still ends.1)
   where
-    risen : (before after : ℕ) → StoodStill before after → Rose before after → ⊥
-    risen before after still (inl rose) = omega (arith, still.same)
-    risen before after still (inr ended) = omega (arith, still.below, ended.0)
+    risen : (first last : ℕ) → StoodStill first last → Rose first last → ⊥
+    risen first last still (inl rose) = omega (arith, still.same)
+    risen first last still (inr ended) = omega (arith, still.below, ended.0)

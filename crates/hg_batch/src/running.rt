@@ -34,7 +34,6 @@ const MOST_VERTICES: u64 = 4_194_304;
 /// The refusals come in this order: the words; each read, its failure first and then an input that is too long; too many
 /// jobs; too many vertices in all; the writes. Memory may run out at any point before the first byte of `out` is written.
 /// A failure of `err` changes nothing.
-#[tactic(auto, using(crate::proofs::RunningLemmas::complete_from))]
 pub fn run_batch<S: Source, K: Sink, E: Sink>(
     rt: &(impl Threads + Sync),
     alloc: Global,

@@ -93,17 +93,22 @@ fn drawn(shift: &Shift, hands: &mut [Hand], place: usize) -> Option<u32>
     requires { All (λ hand. IsHandOf hand shift.now) hands.old }
     ensures { All (λ hand. IsHandOf hand shift.now) hands.new }
 {
-    let hand = hands.get_mut(place)?;
-    if hand.has_missed() {
+    if hands.len() <= place || hands[place].has_missed() {
         return None;
     }
-    shift.next(hand)
+    shift.next(&mut hands[place])
 }
 
 #[test]
 fn by_turns(rt: HostRuntime) -> Result<(), Fail> {
     let (shift, mut hands) = Shift::start(rt.alloc(), 3, 2)?;
-    let wanted = [(0, Some(0)), (1, Some(1)), (0, Some(2)), (1, None), (0, None)];
+    let wanted = [
+        (0, Some(0)),
+        (1, Some(1)),
+        (0, Some(2)),
+        (1, None),
+        (0, None),
+    ];
     for (place, want) in wanted {
         let got = drawn(&shift, hands.as_mut_slice(), place);
         assert_eq!(rt; got, want);

@@ -13,6 +13,7 @@ use std::thread::Threads;
 /// Jobs with a number each, from 0, whose texts can be made in any order.
 pub trait Job: Sync {
     ghost use Rattle.std.specs.Prelude.{ℕ, List};
+    ghost use Rattle.std.specs.Thread.{IsSync};
 
     // The texts of the jobs, by number.
     ghost texts: { Self → List (List ℕ) };
@@ -24,7 +25,9 @@ pub trait Job: Sync {
         alloc: Global,
         job: u32,
     ) -> Result<Vec<u8>, OutOfMemory>
-        requires { job < length (texts self.now) }
+        requires job { job < length (texts self.now) }
+        // What the bound of R says: a trait's method has it by a clause alone.
+        requires shared { IsSync R.row }
         ensures { IfOk result (λ text. slice_get (texts self.now) job ≡ Some text.items) };
 
     /// How many jobs there are.

@@ -1,0 +1,4 @@
+pub mod PieceLemmas
+pub mod ReadingLemmas
+pub mod RunningLemmas
+pub mod TextLemmas

@@ -6,19 +6,19 @@ use Rattle.graph_reader.specs.Tokens.{PlacedToken, is_space, is_line_end, blanke
 use Rattle.graph_reader.specs.FirstFault.{EndsToken}
 use Rattle.graph_reader.proofs.Steps.{word-space, word-other, tokens-space, tokens-begin, tokens-within, shift}
 
-either : (b : Bool) → (b ≡ true) ⊎ (b ≡ false)
+pub either : (b : Bool) → (b ≡ true) ⊎ (b ≡ false)
 either true = inl refl
 either false = inr refl
 
 -- comments are blanked byte by byte from the left
-blanked-first : (within : Bool) (b : ℕ) → (c : ℕ) × (after : Bool) × ((bs : List ℕ) → blanked within (b ∷ bs) ≡ c ∷ blanked after bs)
+pub blanked-first : (within : Bool) (b : ℕ) → (c : ℕ) × (after : Bool) × ((bs : List ℕ) → blanked within (b ∷ bs) ≡ c ∷ blanked after bs)
 unfolding blanked
 blanked-first within b = elim (either ((within || (b == 35)) && not (is_line_end b))) [
   | inl e ↦ (32, true, λ bs. rw e refl)
   | inr e ↦ (b, false, λ bs. rw e refl)
 ]
 
-blanked-length : (within : Bool) (bs : List ℕ) → length (blanked within bs) ≡ length bs
+pub blanked-length : (within : Bool) (bs : List ℕ) → length (blanked within bs) ≡ length bs
 unfolding blanked
 blanked-length within [] = refl
 blanked-length within (b ∷ bs) =
@@ -41,17 +41,17 @@ blanked-more within (b ∷ bs) rest =
     let r = blanked-more f.1 bs rest in
     (r.0, f.2 (bs ++ rest) ∙ ap (λ (more : List ℕ). f.0 ∷ more) r.1 ∙ ap (λ (all : List ℕ). all ++ blanked r.0 rest) (sym (f.2 bs)))
 
-word-le : (bs : List ℕ) → length (word bs) ≤ length bs
+pub word-le : (bs : List ℕ) → length (word bs) ≤ length bs
 word-le [] = omega arith
 word-le (b ∷ bs) = elim (either (is_space b)) [
   | inl e ↦ rw (word-space b bs e) (omega arith)
   | inr e ↦ let h = word-le bs in rw (word-other b bs e) (omega (arith, h))
 ]
 
-head-same : (u t : PlacedToken) (us ts : List PlacedToken) → u ∷ us ≡ t ∷ ts → u ≡ t
+pub head-same : (u t : PlacedToken) (us ts : List PlacedToken) → u ∷ us ≡ t ∷ ts → u ≡ t
 head-same u t us ts e = cc
 
-tail-same : (u t : PlacedToken) (us ts : List PlacedToken) → u ∷ us ≡ t ∷ ts → us ≡ ts
+pub tail-same : (u t : PlacedToken) (us ts : List PlacedToken) → u ∷ us ≡ t ∷ ts → us ≡ ts
 tail-same u t us ts e = cc
 
 -- where the token stands

@@ -6,6 +6,7 @@ use Rattle.hg_base.specs.declared.fault.InputFault.{InputFault}
 use Rattle.hg_base.specs.declared.fault.ReadError.{ReadError}
 use Rattle.hg_base.specs.declared.fault.ReadError.TheVariants.{OutOfMemory}
 use Rattle.graph_reader.specs.declared.token.Token.{Token}
+use Rattle.graph_reader.specs.declared.token.Found.{Found}
 use Rattle.graph_reader.specs.declared.lexer.Text.{Text}
 use Rattle.graph_reader.specs.declared.lexer.Lexer.{Lexer}
 use Rattle.graph_reader.specs.declared.lexer.Lexer.TheVariants.{Between, Comment, Inside}
@@ -13,9 +14,9 @@ use Rattle.graph_reader.specs.declared.parser.Stage.{Stage}
 use Rattle.graph_reader.specs.declared.parser.Stage.TheVariants as stages
 use Rattle.graph_reader.specs.Tokens.{PlacedToken, blanked, tokens_from}
 use Rattle.graph_reader.specs.EdgeList.{edge_list, ended, settles}
-use Rattle.graph_reader.specs.Lexing.{meaning_with, lexed}
-use Rattle.graph_reader.specs.Parsing.{Parsing, Takes, reading_at, settling, is_out_of_memory, is_counting, KeepsMemory}
-use Rattle.graph_reader.specs.Progress.{Progress, HasRead, Answers, reading_on, settles_with}
+use Rattle.graph_reader.specs.Lexing.{meaning_with, lexed, placed, AreThree}
+use Rattle.graph_reader.specs.Parsing.{Parsing, Takes, TakesThree, reading_at, settling, is_over, is_out_of_memory, is_counting, KeepsMemory}
+use Rattle.graph_reader.specs.Progress.{Progress, HasRead, Answers, with_more, reading_on, settles_with}
 
 abbrev progress : ℕ → Lexer → Parsing → Progress
 progress n l p = record { taken = n; lexer = l; parsing = p }
@@ -56,6 +57,33 @@ read-quiet p l k n more bytes tokens read = record {
   taken = rw (length-append, read.taken) refl;
   reading = λ memory rest. rw (append_assoc, ← read.reading memory (more ++ rest), tokens rest, length-append, past n (length more) (length rest)) refl;
   settling = λ rest. rw (append_assoc, ← read.settling (more ++ rest), tokens rest, length-append, past n (length more) (length rest)) refl;
+}
+
+over-reads : (s : Stage) (p : Parsing) (end to : ℕ) (ts us : List PlacedToken) → is_over s ≡ true → is_out_of_memory s ≡ false → reading_at s p end ts ≡ reading_at s p to us
+unfolding reading_at
+over-reads (stages.Faulty f) p end to ts us e memory = refl
+over-reads stages.OutOfMemory p end to ts us e memory = cc
+over-reads _ p end to ts us e memory = cc
+
+over-settles : (s : Stage) (ts us : List PlacedToken) → is_over s ≡ true → settling s ts ≡ settling s us
+unfolding settling
+over-settles (stages.Faulty f) ts us e = refl
+over-settles stages.OutOfMemory ts us e = refl
+over-settles _ ts us e = cc
+
+-- what follows a known fault is read by counting its bytes
+pub read-over : (d : Progress) (more bytes : List ℕ) → is_over d.parsing.stage ≡ true → HasRead d bytes → HasRead (with_more d (length more)) (bytes ++ more)
+unfolding reading_on settles_with
+read-over d more bytes e read = record {
+  taken = rw (length-append, read.taken) refl;
+  reading = λ memory rest.
+      over-reads d.parsing.stage d.parsing _ _ _ _ e memory
+      ∙ read.reading memory (more ++ rest)
+      ∙ ap edge_list (sym (append_assoc bytes more rest));
+  settling = λ rest.
+      over-settles d.parsing.stage _ _ e
+      ∙ read.settling (more ++ rest)
+      ∙ ap settles (sym (append_assoc bytes more rest));
 }
 
 -- one piece and then another are one
@@ -111,6 +139,60 @@ keeps-taking p q at token takes = record {
   out = runs-out p q at token takes;
   settled = λ e. (takes.settling 0 [] ∙ settled-more p.stage _ e, takes.memory (settled-not-counting p.stage e));
 }
+
+keeps-then : (p q r : Parsing) → KeepsMemory p q → KeepsMemory q r → KeepsMemory p r
+keeps-then p q r first second = record {
+  out = λ e. second.out (first.out e);
+  settled = λ e.
+      let a = first.settled e in
+      let b = second.settled a.0 in
+      (b.0, b.1 ∙ a.1);
+}
+
+pub keeps-three : (p q : Parsing) (u v w : Found) → TakesThree p q u v w → KeepsMemory p q
+keeps-three p q u v w takes =
+    keeps-then p takes.first q (keeps-taking p takes.first u.at u.token takes.one)
+    (keeps-then takes.first takes.second q (keeps-taking takes.first takes.second v.at v.token takes.two) (keeps-taking takes.second q w.at w.token takes.three))
+
+-- bytes that are three tokens
+pub read-three : (p q : Parsing) (n : ℕ) (more bytes : List ℕ) (u v w : Found) → TakesThree p q u v w → AreThree n more u v w
+    → HasRead (progress n Between p) bytes → HasRead (progress (n + length more) Between q) (bytes ++ more)
+unfolding reading_on settles_with
+read-three p q n more bytes u v w takes tokens read =
+    let lexes = tokens.3 in
+    let x = placed u tokens.0 in
+    let y = placed v tokens.1 in
+    let z = placed w tokens.2 in
+    record {
+      taken = rw (length-append, read.taken) refl;
+      reading = λ memory rest.
+          let second = back _ _ (runs-out takes.second q w.at w.token takes.three) memory in
+          let first = back _ _ (runs-out takes.first takes.second v.at v.token takes.two) second in
+          let before = back _ _ (runs-out p takes.first u.at u.token takes.one) first in
+          let end = (n + length more) + length rest in
+          let us = lexed Between (n + length more) rest in
+          takes.three.reading memory tokens.2 end us
+          ∙ takes.two.reading second tokens.1 end (z ∷ us)
+          ∙ takes.one.reading first tokens.0 end (y ∷ z ∷ us)
+          ∙ ap (λ (ts : List PlacedToken). reading_at p.stage p end ts) (sym (lexes.lexes rest))
+          ∙ ap (λ (to : ℕ). reading_at p.stage p to (lexed Between n (more ++ rest))) (whole n more rest)
+          ∙ read.reading before (more ++ rest)
+          ∙ ap edge_list (sym (append_assoc bytes more rest));
+      settling = λ rest.
+          let end = (n + length more) + length rest in
+          let us = lexed Between (n + length more) rest in
+          takes.three.settling tokens.2 (ended end us)
+          ∙ takes.two.settling tokens.1 (z ∷ ended end us)
+          ∙ takes.one.settling tokens.0 (y ∷ z ∷ ended end us)
+          ∙ ap (λ (ts : List PlacedToken). settling p.stage ts) (sym (lexes.all_ended (length rest) us))
+          ∙ ap (λ (ts : List PlacedToken). settling p.stage (ended end ts)) (sym (lexes.lexes rest))
+          ∙ ap (λ (to : ℕ). settling p.stage (ended to (lexed Between n (more ++ rest)))) (whole n more rest)
+          ∙ read.settling (more ++ rest)
+          ∙ ap settles (sym (append_assoc bytes more rest));
+    }
+  where
+    whole : (n : ℕ) (more rest : List ℕ) → (n + length more) + length rest ≡ n + length (more ++ rest)
+    whole n more rest = sym (past n (length more) (length rest)) ∙ ap (λ (k : ℕ). n + k) (sym (length-append more rest))
 
 -- at the end no token has ended that had not before
 none-ends : (l : Lexer) (n : ℕ) → ended (n + 0) (lexed l n []) ≡ []

@@ -12,25 +12,25 @@ use Rattle.graph_reader.specs.Tokens.{PlacedToken}
 use Rattle.graph_reader.specs.EdgeList.{◌>>=◌, at_most, next, need, first_word, number, vertices, edges, area, first_end, second_end, weight, edge, several, areas, whole, graph, fault}
 
 -- each fault of it stands at this place, and isn't that the input ends
-abbrev FaultsAt : {A : Type 0} → ℕ → Result A InputFault → Type 0
+abbrev pub FaultsAt : {A : Type 0} → ℕ → Result A InputFault → Type 0
 FaultsAt at r = (f : InputFault) → r ≡ Err f → (f.at ≡ at) × (f.kind ≢ Truncated)
 
-at-ok : {A : Type 0} (at : ℕ) (x : A) → FaultsAt at (Ok x)
+pub at-ok : {A : Type 0} (at : ℕ) (x : A) → FaultsAt at (Ok x)
 at-ok at x f e = cc
 
 err-inj : {A : Type 0} (x y : InputFault) → (let r : Result A InputFault = Err x in r) ≡ Err y → x ≡ y
 err-inj x y e = cc
 
-at-fault : {A : Type 0} (kind : FaultKind) (at value : ℕ) → kind ≢ Truncated → FaultsAt {A = A} at (fault kind at value)
+pub at-fault : {A : Type 0} (kind : FaultKind) (at value : ℕ) → kind ≢ Truncated → FaultsAt {A = A} at (fault kind at value)
 at-fault {A} kind at value other f e =
     let same = err-inj {A = A} (record { kind = kind; at = at; value = value }) f e in
     (sym (ap (λ (g : InputFault). g.at) same), λ ends. other (ap (λ (g : InputFault). g.kind) same ∙ ends))
 
-at-then : {A B : Type 0} (at : ℕ) (r : Result A InputFault) (next : A → Result B InputFault) → FaultsAt at r → ((x : A) → FaultsAt at (next x)) → FaultsAt at (r >>= next)
+pub at-then : {A B : Type 0} (at : ℕ) (r : Result A InputFault) (next : A → Result B InputFault) → FaultsAt at r → ((x : A) → FaultsAt at (next x)) → FaultsAt at (r >>= next)
 at-then at (Ok x) next first others f e = others x f e
 at-then {A} at (Err g) next first others f e = first f (ap (λ (h : InputFault). let r : Result A InputFault = Err h in r) (err-inj g f e))
 
-at-either : {A : Type 0} (at : ℕ) (b : Bool) (x y : Result A InputFault) → FaultsAt at x → FaultsAt at y → FaultsAt at (if b then x else y)
+pub at-either : {A : Type 0} (at : ℕ) (b : Bool) (x y : Result A InputFault) → FaultsAt at x → FaultsAt at y → FaultsAt at (if b then x else y)
 at-either at true x y p q = p
 at-either at false x y p q = q
 
@@ -52,7 +52,7 @@ rule-number at Graph = at-fault BadNumber at 0 (λ e. cc)
 rule-number at GraphWithAreas = at-fault BadNumber at 0 (λ e. cc)
 rule-number at Other = at-fault BadNumber at 0 (λ e. cc)
 
-at-most : (limit at n : ℕ) → FaultsAt at (at_most limit at n)
+pub at-most : (limit at n : ℕ) → FaultsAt at (at_most limit at n)
 at-most limit at n = at-either at (nat_lt limit n) (fault TooLarge at n) (Ok n) (at-fault TooLarge at n (λ e. cc)) (at-ok at n)
 
 rule-vertices : IsRule vertices

@@ -4,11 +4,12 @@ use Rattle.std.specs.Prelude.{Ok, replicate, if◌then◌else◌}
 use Rattle.hg_base.specs.declared.graph.Edge.{Edge}
 use Rattle.hg_base.specs.declared.fault.FaultKind.TheVariants as kinds
 use Rattle.graph_reader.specs.declared.token.Token.{Token}
+use Rattle.graph_reader.specs.declared.token.Found.{Found}
 use Rattle.graph_reader.specs.declared.parser.Stage.TheVariants as stages
 use Rattle.graph_reader.specs.declared.parser.Parser.TheInside.{Inside}
 use Rattle.graph_reader.specs.ParserFields.{parsing_of, Keeps}
-use Rattle.graph_reader.specs.EdgeList.{◌>>=◌, fault, need, several, area, first_end, edges, edge, whole}
-use Rattle.graph_reader.specs.Parsing.{Takes, reading, reading_at, is_out_of_memory, settling}
+use Rattle.graph_reader.specs.EdgeList.{◌>>=◌, fault, need, several, area, first_end, second_end, weight, edges, edge, whole}
+use Rattle.graph_reader.specs.Parsing.{Takes, TakesThree, reading, reading_at, is_out_of_memory, settling}
 use Rattle.graph_reader.proofs.Chains.{areas-step, more_edges-step, several-missing}
 
 left : (n k : ℕ) → k < n → n - k ≡ suc (n - (k + 1))
@@ -42,6 +43,41 @@ takes-first_end with_areas n m u at known es token h ok = record {
       (record { from = at; to = to; token = token }) ts u (left m (length es) h) ok;
   settling = λ to ts. refl;
   memory = λ counting. refl;
+}
+
+takes-second_end : (with_areas : Bool) (n m u v at : ℕ) (known : List ℕ) (es : List Edge) (token : Token) → second_end n u at token ≡ Ok v
+    → Takes (record { stage = stages.SecondEnd u; with_areas = with_areas; n = n; m = m; areas = known; edges = es })
+    (record { stage = stages.Weight u v; with_areas = with_areas; n = n; m = m; areas = known; edges = es }) at token
+unfolding reading_at settling
+takes-second_end with_areas n m u v at known es token ok = record {
+  reading = λ memory to end ts. rw ok refl;
+  settling = λ to ts. refl;
+  memory = λ counting. refl;
+}
+
+takes-weight : (with_areas : Bool) (n m u v w at : ℕ) (known : List ℕ) (es : List Edge) (token : Token) → weight at token ≡ Ok w
+    → Takes (record { stage = stages.Weight u v; with_areas = with_areas; n = n; m = m; areas = known; edges = es })
+    (record { stage = stages.FirstEnd; with_areas = with_areas; n = n; m = m; areas = known; edges = es ++ record { u = u; v = v; w = w } ∷ [] }) at token
+unfolding reading_at settling
+takes-weight with_areas n m u v w at known es token ok =
+    let e : Edge = record { u = u; v = v; w = w } in
+    record {
+      reading = λ memory to end ts. rw (ok, length-more es e) refl;
+      settling = λ to ts. refl;
+      memory = λ counting. refl;
+    }
+
+-- the three tokens of an edge
+pub takes-edge : (with_areas : Bool) (n m : ℕ) (known : List ℕ) (es : List Edge) (u v w : Found) (e : Edge)
+    → length es < m → first_end n u.at u.token ≡ Ok e.u → second_end n e.u v.at v.token ≡ Ok e.v → weight w.at w.token ≡ Ok e.w
+    → TakesThree (record { stage = stages.FirstEnd; with_areas = with_areas; n = n; m = m; areas = known; edges = es })
+    (record { stage = stages.FirstEnd; with_areas = with_areas; n = n; m = m; areas = known; edges = es ++ e ∷ [] }) u v w
+takes-edge with_areas n m known es u v w e left first second weighs = record {
+  first = record { stage = stages.SecondEnd e.u; with_areas = with_areas; n = n; m = m; areas = known; edges = es };
+  second = record { stage = stages.Weight e.u e.v; with_areas = with_areas; n = n; m = m; areas = known; edges = es };
+  one = takes-first_end with_areas n m e.u u.at known es u.token left first;
+  two = takes-second_end with_areas n m e.u e.v v.at known es v.token second;
+  three = takes-weight with_areas n m e.u e.v e.w w.at known es w.token weighs;
 }
 
 pub not-false : (b : Bool) → not b ≡ false → b ≡ true

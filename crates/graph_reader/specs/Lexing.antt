@@ -1,14 +1,16 @@
 -- The tokens that are still to come, seen from where the reading stands.
-use Rattle.std.specs.Prelude.{◌≡◌, ℕ, ◌+◌, ◌-◌, ◌*◌, ◌^◌, ◌<◌, ◌≤◌, true, false, ◌&&◌, nat_le, if◌then◌else◌, List, ◌∷◌, ◌++◌, length, take, codes}
+use Rattle.std.specs.Prelude.{◌≡◌, ℕ, ◌+◌, ◌-◌, ◌*◌, ◌^◌, ◌<◌, ◌≤◌, true, false, ◌&&◌, nat_le, if◌then◌else◌, List, [], ◌∷◌, ◌++◌, length, take, codes}
 use Rattle.std.specs.List.{list_all, fold}
 use Rattle.std.specs.Char.{is_ascii_digit}
 use Rattle.graph_reader.specs.declared.token.Token.{Token}
 use Rattle.graph_reader.specs.declared.token.Token.TheVariants as tokens
+use Rattle.graph_reader.specs.declared.token.Found.{Found}
 use Rattle.graph_reader.specs.declared.lexer.Text.{Text}
 use Rattle.graph_reader.specs.declared.lexer.Text.TheVariants.{Word, Number, Other}
 use Rattle.graph_reader.specs.declared.lexer.Lexer.{Lexer}
 use Rattle.graph_reader.specs.declared.lexer.Lexer.TheVariants.{Between, Comment, Inside}
 use Rattle.graph_reader.specs.Tokens.{PlacedToken, blanked, word, meaning, tokens_from}
+use Rattle.graph_reader.specs.EdgeList.{ended}
 
 -- the bytes of some token begin so
 abbrev pub IsBegun : Text → Type 0
@@ -37,6 +39,23 @@ lexed (Inside start text) place bytes =
     let more = word (blanked false bytes) in
     record { from = start; to = place + length more; token = meaning_with text more } ∷ tokens_from false place (blanked false bytes)
 
--- these bytes lead from one to the other, and end no token
+-- from this place on these bytes lead from one to the other, and end no token
+abbrev pub GoesOnAt : ℕ → Lexer → Lexer → List ℕ → Type 0
+GoesOnAt place from to bytes = (rest : List ℕ) → lexed from place (bytes ++ rest) ≡ lexed to (place + length bytes) rest
+
+-- and from each place on
 abbrev pub GoesOn : Lexer → Lexer → List ℕ → Type 0
-GoesOn from to bytes = (place : ℕ) (rest : List ℕ) → lexed from place (bytes ++ rest) ≡ lexed to (place + length bytes) rest
+GoesOn from to bytes = (place : ℕ) → GoesOnAt place from to bytes
+
+-- a token that was found, and the place behind its last byte
+abbrev pub placed : Found → ℕ → PlacedToken
+placed found to = record { from = found.at; to = to; token = found.token }
+
+-- between tokens, the bytes from this place on are these tokens, and each ends in them
+pub record LexesTo (place : ℕ) (bytes : List ℕ) (ts : List PlacedToken) : Type 0 where
+  pub lexes : (rest : List ℕ) → lexed Between place (bytes ++ rest) ≡ ts ++ lexed Between (place + length bytes) rest
+  pub all_ended : (more : ℕ) (us : List PlacedToken) → ended ((place + length bytes) + more) (ts ++ us) ≡ ts ++ ended ((place + length bytes) + more) us
+
+-- the bytes from this place on are the three tokens, between tokens
+abbrev pub AreThree : ℕ → List ℕ → Found → Found → Found → Type 0
+AreThree place bytes u v w = (a : ℕ) × (b : ℕ) × (c : ℕ) × LexesTo place bytes (placed u a ∷ placed v b ∷ placed w c ∷ [])

@@ -7,3 +7,4 @@ pub mod Progress
 pub mod DecoderFields
 pub mod Spelling
 pub mod FirstFault
+pub mod LongestRuns

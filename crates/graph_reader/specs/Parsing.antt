@@ -1,14 +1,15 @@
 -- What the tokens that are still to come make of what has been read.
-use Rattle.std.specs.Prelude.{◌≡◌, ◌⊎◌, ℕ, ◌+◌, ◌-◌, Bool, true, false, List, [], ◌∷◌, ◌++◌, length, replicate, if◌then◌else◌, Result, Err, is_err}
-use Rattle.hg_base.specs.Graph.{WeightedGraph}
+use Rattle.std.specs.Prelude.{◌≡◌, ◌⊎◌, ℕ, ◌+◌, ◌-◌, ◌<◌, Bool, true, false, List, [], ◌∷◌, ◌++◌, length, replicate, if◌then◌else◌, Result, Ok, Err, is_err}
+use Rattle.hg_base.specs.Graph.{WeightedGraph, JoinsTwo}
 use Rattle.hg_base.specs.declared.graph.Edge.{Edge}
 use Rattle.hg_base.specs.declared.fault.FaultKind.TheVariants as kinds
 use Rattle.hg_base.specs.declared.fault.InputFault.{InputFault}
 use Rattle.graph_reader.specs.declared.token.Token.{Token}
+use Rattle.graph_reader.specs.declared.token.Found.{Found}
 use Rattle.graph_reader.specs.declared.parser.Stage.{Stage}
 use Rattle.graph_reader.specs.declared.parser.Stage.TheVariants as stages
 use Rattle.graph_reader.specs.Tokens.{PlacedToken}
-use Rattle.graph_reader.specs.EdgeList.{◌>>=◌, fault, need, several, vertices, edges, area, second_end, weight, edge, areas, whole, graph, settle}
+use Rattle.graph_reader.specs.EdgeList.{◌>>=◌, fault, need, several, vertices, edges, area, first_end, second_end, weight, edge, areas, whole, graph, settle}
 
 -- what has been read of an edge list; the numbers and lists mean something from the stage on that reads them
 pub record Parsing : Type 0 where
@@ -23,6 +24,12 @@ pub record Parsing : Type 0 where
 abbrev pub is_out_of_memory : Stage → Bool
 is_out_of_memory stages.OutOfMemory = true
 is_out_of_memory _ = false
+
+-- no token changes anything any more: a fault is known, or memory ran out
+abbrev pub is_over : Stage → Bool
+is_over (stages.Faulty f) = true
+is_over stages.OutOfMemory = true
+is_over _ = false
 
 -- the token that is read next says how much memory is needed
 abbrev pub is_counting : Stage → Bool
@@ -90,6 +97,23 @@ pub record Takes (old new : Parsing) (at : ℕ) (token : Token) : Type 0 where
   pub reading : is_out_of_memory new.stage ≡ false → (to end : ℕ) (ts : List PlacedToken) → reading new end ts ≡ reading old end (record { from = at; to = to; token = token } ∷ ts)
   pub settling : (to : ℕ) (ts : List PlacedToken) → settling new.stage ts ≡ settling old.stage (record { from = at; to = to; token = token } ∷ ts)
   pub memory : is_counting old.stage ≡ false → is_out_of_memory new.stage ≡ is_out_of_memory old.stage
+
+-- taking these three tokens leads from old to new
+pub record TakesThree (old new : Parsing) (u v w : Found) : Type 0 where
+  pub first : Parsing
+  pub second : Parsing
+  pub one : Takes old first u.at u.token
+  pub two : Takes first second v.at v.token
+  pub three : Takes second new w.at w.token
+
+-- an edge is read next, and these tokens give this one
+pub record IsNextEdge (p : Parsing) (u v w : Found) (e : Edge) : Type 0 where
+  pub stage : p.stage ≡ stages.FirstEnd
+  pub left : length p.edges < p.m
+  pub joins : JoinsTwo p.n e
+  pub first : first_end p.n u.at u.token ≡ Ok e.u
+  pub second : second_end p.n e.u v.at v.token ≡ Ok e.v
+  pub weighs : weight w.at w.token ≡ Ok e.w
 
 -- memory was taken for m edges, and for the areas where they are given; or there was none
 abbrev pub TakesRoom : Parsing → Parsing → ℕ → Type 0

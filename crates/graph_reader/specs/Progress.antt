@@ -20,6 +20,14 @@ pub record Progress : Type 0 where
 abbrev pub is_out_of_memory : Progress → Bool
 is_out_of_memory d = parsing.is_out_of_memory d.parsing.stage
 
+-- a fault is known, or memory ran out
+abbrev pub is_over : Progress → Bool
+is_over d = parsing.is_over d.parsing.stage
+
+-- so many bytes more were fed, and nothing else changed
+abbrev pub with_more : Progress → ℕ → Progress
+with_more d count = record { taken = d.taken + count; lexer = d.lexer; parsing = d.parsing }
+
 -- what reading on through these bytes to the end gives
 unfoldable pub reading_on : Progress → List ℕ → Result WeightedGraph InputFault
 reading_on d rest = parsing.reading d.parsing (d.taken + length rest) (lexed d.lexer d.taken rest)

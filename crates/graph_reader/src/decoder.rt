@@ -2,7 +2,7 @@ ghost use Rattle.std.specs.Prelude.{◌≡◌, ◌+◌, ◌<◌, ◌≤◌, ◌�
 ghost use Rattle.graph_reader.specs.EdgeList.{edge_list, settles};
 ghost use Rattle.graph_reader.specs.Lexing.{IsLexing};
 ghost use Rattle.graph_reader.specs.Parsing.{KeepsMemory};
-ghost use Rattle.graph_reader.specs.Progress.{HasRead, Answers, is_out_of_memory, is_sized};
+ghost use Rattle.graph_reader.specs.Progress.{HasRead, Answers, is_over, with_more, is_out_of_memory, is_sized};
 
 use crate::lexer::Lexer;
 use crate::parser::Parser;
@@ -57,9 +57,22 @@ impl Decoder {
         ensures memory { is_err result ≡ is_out_of_memory self.new }
         ensures stays { IsTrue (is_out_of_memory self.old) → IsTrue (is_out_of_memory self.new) }
         ensures sized { IsTrue (is_sized self.old) → IsTrue (is_sized self.new) × (is_out_of_memory self.new ≡ is_out_of_memory self.old) }
+        // After a known fault, or where memory ran out, only the number of bytes changes.
+        ensures frozen { IsTrue (is_over self.old) → self.new ≡ with_more self.old (length piece.now) }
     {
+        if self.parser.is_over() {
+            self.taken += piece.len() as u64;
+            return self.memory();
+        }
         self.lexer = read_piece(self.lexer, self.taken, &mut self.parser, piece);
         self.taken += piece.len() as u64;
+        self.memory()
+    }
+
+    // An error where memory ran out.
+    fn memory(&self) -> Result<(), OutOfMemory>
+        ensures { is_err result ≡ is_out_of_memory self.now }
+    {
         if self.parser.is_out_of_memory() {
             Err(OutOfMemory)
         } else {
@@ -117,8 +130,8 @@ fn read_byte(lexer: Lexer, place: u64, parser: &mut Parser, b: u8) -> Lexer
     }
 }
 
-// Reads some bytes of a piece that begins at this place: the digits that go on with a number, and the
-// byte behind them. Answers how many they are.
+// Reads some bytes of a piece that begins at this place: the three numbers of an edge, or else a run. Answers how many
+// they are.
 fn read_some(lexer: Lexer, place: u64, parser: &mut Parser, piece: &[u8]) -> (Lexer, usize)
     requires lexing { IsLexing lexer }
     requires some { 0 < length piece.now }
@@ -129,12 +142,33 @@ fn read_some(lexer: Lexer, place: u64, parser: &mut Parser, piece: &[u8]) -> (Le
         → HasRead (record { taken = place + result.1; lexer = result.0; parsing = parser.new }) (bytes ++ take result.1 piece.now) }
     ensures keeps { KeepsMemory parser.old parser.new }
 {
-    let (now, digits) = lexer.after_digits(piece);
-    if digits == piece.len() {
-        return (now, digits);
+    if parser.is_at_edge() {
+        if let Some(edge) = lexer.three_numbers(place, piece) {
+            parser.take_three(edge.u, edge.v, edge.w);
+            return (Lexer::Between, edge.count);
+        }
     }
-    let next = read_byte(now, place + digits as u64, parser, piece[digits]);
-    (next, digits + 1)
+    read_run(lexer, place, parser, piece)
+}
+
+// Reads a run that ends no token and that the piece, which begins at this place, begins with; and the byte behind it.
+// Answers how many bytes they are.
+fn read_run(lexer: Lexer, place: u64, parser: &mut Parser, piece: &[u8]) -> (Lexer, usize)
+    requires lexing { IsLexing lexer }
+    requires some { 0 < length piece.now }
+    requires short { place + length piece.now ≤ 134217728 }
+    ensures lexing { IsLexing result.0 }
+    ensures count { (0 < result.1) × (result.1 ≤ length piece.now) }
+    ensures read { (bytes : List ℕ) → HasRead (record { taken = place; lexer = lexer; parsing = parser.old }) bytes
+        → HasRead (record { taken = place + result.1; lexer = result.0; parsing = parser.new }) (bytes ++ take result.1 piece.now) }
+    ensures keeps { KeepsMemory parser.old parser.new }
+{
+    let (now, run) = lexer.after_run(place, piece);
+    if run == piece.len() {
+        return (now, run);
+    }
+    let next = read_byte(now, place + run as u64, parser, piece[run]);
+    (next, run + 1)
 }
 
 // Reads a piece that begins at this place.

@@ -1,8 +1,8 @@
-ghost use Rattle.std.specs.Prelude.{◌≡◌, ◌+◌, ◌≤◌, ◌∷◌, [], List, ℕ, length, take, MatchOption};
-ghost use Rattle.graph_reader.specs.Lexing.{IsBegun, meaning_with, IsLexing, lexed, GoesOn};
+ghost use Rattle.std.specs.Prelude.{◌≡◌, ◌+◌, ◌<◌, ◌≤◌, ◌∷◌, [], List, ℕ, length, take, MatchOption, IfSome};
+ghost use Rattle.graph_reader.specs.Lexing.{IsBegun, meaning_with, IsLexing, lexed, GoesOnAt, GoesOn, placed, LexesTo, AreThree};
 ghost use Rattle.graph_reader.specs.Tokens.{meaning, is_space, is_line_end};
 
-use crate::token::{Found, Token};
+use crate::token::{EdgeTokens, Found, Token};
 
 const GRAPH2: [u8; 6] = [b'g', b'r', b'a', b'p', b'h', b'2'];
 
@@ -117,6 +117,77 @@ fn read_digits(at: u64, digits: u8, value: u64, piece: &[u8]) -> (Lexer, usize)
     (Lexer::Inside(at, Text::Number(all, sum)), count)
 }
 
+// Reads the number that begins at this place, with this digit, and goes on with the digits that the others
+// begin with. Answers how many digits there are.
+fn read_number(place: u64, first: u8, others: &[u8]) -> (Lexer, usize)
+    requires least { 48 ≤ first }
+    requires most { first ≤ 57 }
+    ensures valid { IsLexing result.0 }
+    ensures count { (1 ≤ result.1) × (result.1 ≤ length others.now + 1) }
+    ensures tokens { GoesOnAt place Lexer.Between result.0 (take result.1 (first ∷ others.now)) }
+{
+    let (now, count) = read_digits(place, 1, u64::from(first - b'0'), others);
+    (now, count + 1)
+}
+
+// The token that the piece begins with at this place, where it is a number and white space stands behind it; and
+// how many bytes both are.
+fn leading_number(place: u64, piece: &[u8]) -> Option<(Found, usize)>
+    ensures count { IfSome result (λ r. (0 < r.1) × (r.1 ≤ length piece.now)) }
+    ensures tokens { IfSome result (λ r. (to : ℕ) × LexesTo place (take r.1 piece.now) (placed r.0 to ∷ [])) }
+{
+    let (first, others) = piece.split_first()?;
+    if !first.is_ascii_digit() {
+        return None;
+    }
+    let (now, digits) = read_number(place, *first, others);
+    let Lexer::Inside(at, text) = now else {
+        return None;
+    };
+    if digits < piece.len() && is_space(piece[digits]) {
+        let token = text.token();
+        return Some((Found { at, token }, digits + 1));
+    }
+    None
+}
+
+// How many bytes of white space the piece begins with.
+fn count_spaces(piece: &[u8]) -> usize
+    ensures count { result ≤ length piece.now }
+    ensures tokens { GoesOn Lexer.Between Lexer.Between (take result piece.now) }
+{
+    let mut count = 0;
+    while count < piece.len() && is_space(piece[count]) {
+        count += 1;
+    }
+    count
+}
+
+// How many bytes of a comment the piece begins with, before the end of the comment's line.
+fn count_comment(piece: &[u8]) -> usize
+    ensures count { result ≤ length piece.now }
+    ensures tokens { GoesOn Lexer.Comment Lexer.Comment (take result piece.now) }
+{
+    let mut count = 0;
+    while count < piece.len() && !is_line_end(piece[count]) {
+        count += 1;
+    }
+    count
+}
+
+// Reads the white space that the piece begins with, or else the digits of a number that begins at this place.
+// Answers how many bytes they are.
+fn read_between(place: u64, piece: &[u8]) -> (Lexer, usize)
+    ensures valid { IsLexing result.0 }
+    ensures count { result.1 ≤ length piece.now }
+    ensures tokens { GoesOnAt place Lexer.Between result.0 (take result.1 piece.now) }
+{
+    match piece.split_first() {
+        Some((first, others)) if first.is_ascii_digit() => read_number(place, *first, others),
+        _ => (Lexer::Between, count_spaces(piece)),
+    }
+}
+
 impl Lexer {
     /// Where the reading stands after the byte at this place, and the token that ended there.
     pub fn after(self, place: u64, b: u8) -> (Lexer, Option<Found>)
@@ -147,18 +218,42 @@ impl Lexer {
         }
     }
 
-    /// Where the reading stands after the digits that the piece begins with, where a number goes on,
-    /// and how many they are.
-    pub fn after_digits(self, piece: &[u8]) -> (Lexer, usize)
+    /// Where the reading stands after a run of bytes that the piece begins with at this place and that end no
+    /// token: white space, a comment or digits; and how many they are.
+    pub fn after_run(self, place: u64, piece: &[u8]) -> (Lexer, usize)
         requires { IsLexing self }
         ensures valid { IsLexing result.0 }
         ensures count { result.1 ≤ length piece.now }
-        ensures tokens { GoesOn self result.0 (take result.1 piece.now) }
+        ensures tokens { GoesOnAt place self result.0 (take result.1 piece.now) }
     {
         match self {
+            Lexer::Between => read_between(place, piece),
+            Lexer::Comment => (Lexer::Comment, count_comment(piece)),
             Lexer::Inside(at, Text::Number(digits, value)) => read_digits(at, digits, value, piece),
-            _ => (self, 0),
+            Lexer::Inside(_, _) => (self, 0),
         }
+    }
+
+    /// The three numbers that the piece begins with at this place, between tokens, where white space may stand before
+    /// the first, and one byte of it stands behind each. A function of its own, so that its sums stay in registers.
+    #[inline(never)]
+    pub fn three_numbers(self, place: u64, piece: &[u8]) -> Option<EdgeTokens>
+        requires { place + length piece.now ≤ 134217728 }
+        ensures between { IfSome result (λ _. self ≡ Lexer.Between) }
+        ensures count { IfSome result (λ r. (0 < r.count) × (r.count ≤ length piece.now)) }
+        ensures tokens { IfSome result (λ r. AreThree place (take r.count piece.now) r.u r.v r.w) }
+    {
+        let Lexer::Between = self else {
+            return None;
+        };
+        let spaces = count_spaces(piece);
+        let (u, first) = leading_number(place + spaces as u64, &piece[spaces..])?;
+        let one = spaces + first;
+        let (v, second) = leading_number(place + one as u64, &piece[one..])?;
+        let two = one + second;
+        let (w, third) = leading_number(place + two as u64, &piece[two..])?;
+        let count = two + third;
+        Some(EdgeTokens { u, v, w, count })
     }
 
     fn after_inside(at: u64, text: Text, place: u64, b: u8) -> (Lexer, Option<Found>)

@@ -9,7 +9,10 @@ mod rules;
 mod token;
 
 pub use decoder::{Decoder, read_graph};
-pub use laws::{edge_lists_are_spellings, faults_are_the_first, pictures_are_no_edge_lists};
+pub use laws::{
+    edge_lists_are_spellings, faults_are_the_first, pictures_are_no_edge_lists,
+    tokens_are_longest_runs,
+};
 
 #[cfg(test)]
 mod tests;

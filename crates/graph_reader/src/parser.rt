@@ -1,11 +1,11 @@
 #![tactic(auto, unfolding(crate::specs::Parsing::reading_at, crate::specs::Parsing::settling, crate::specs::EdgeList::graph, crate::specs::EdgeList::several, crate::specs::EdgeList::edge))]
 
-ghost use Rattle.std.specs.Prelude.{◌≡◌, ◌≢◌, ◌≤◌, ◌↔◌, ◌⊎◌, ℕ, List, [], ◌∷◌, true, false, length, IsTrue, Err};
-ghost use Rattle.graph_reader.specs.Parsing.{Takes, TakesRoom, reading, is_out_of_memory, settling, graph_so_far};
+ghost use Rattle.std.specs.Prelude.{◌≡◌, ◌≢◌, ◌<◌, ◌≤◌, ◌↔◌, ◌⊎◌, ℕ, List, [], ◌∷◌, true, false, length, IsTrue, IfSome, Err};
+ghost use Rattle.graph_reader.specs.Parsing.{Takes, TakesThree, IsNextEdge, TakesRoom, reading, is_over, is_out_of_memory, settling, graph_so_far};
 ghost use Rattle.graph_reader.specs.Progress.{Answers};
 
 use crate::rules;
-use crate::token::Token;
+use crate::token::{Found, Token};
 use hg_base::{Edge, FaultKind, Graph, InputFault, ReadError};
 use std::alloc::Global;
 use std::marker::Model;
@@ -92,6 +92,49 @@ impl Parser {
             Stage::Weight(u, v) => self.take_weight(u, v, at, token),
             Stage::Faulty(_) | Stage::OutOfMemory => {}
         }
+    }
+
+    /// Reads three tokens, as `take` does one after another.
+    pub fn take_three(&mut self, u: Found, v: Found, w: Found)
+        ensures { TakesThree self.old self.new u v w }
+    {
+        if let Some(edge) = self.next_edge(u, v, w) {
+            self.edges.push_reserved(edge);
+            return;
+        }
+        self.take(u.at, u.token);
+        self.take(v.at, v.token);
+        self.take(w.at, w.token);
+    }
+
+    // The edge that these tokens give, where one is read next.
+    fn next_edge(&self, u: Found, v: Found, w: Found) -> Option<Edge>
+        ensures { IfSome result (IsNextEdge self.now u v w) }
+    {
+        if !self.is_at_edge() {
+            return None;
+        }
+        let Ok(first) = rules::first_end(self.n, u.at, u.token) else {
+            return None;
+        };
+        let Ok(second) = rules::second_end(self.n, first, v.at, v.token) else {
+            return None;
+        };
+        let Ok(weight) = rules::weight(w.at, w.token) else {
+            return None;
+        };
+        Some(Edge {
+            u: first,
+            v: second,
+            w: weight,
+        })
+    }
+
+    /// Whether an edge is read next.
+    pub fn is_at_edge(&self) -> bool
+        ensures { IsTrue result → (self.now.stage ≡ Stage.FirstEnd) × (length self.now.edges < self.now.m) }
+    {
+        matches!(self.stage, Stage::FirstEnd) && self.edges.len() < self.m as usize
     }
 
     fn take_first_word(&mut self, at: u64, token: Token)
@@ -228,6 +271,13 @@ impl Parser {
         ensures { result ≡ is_out_of_memory self.now.stage }
     {
         matches!(self.stage, Stage::OutOfMemory)
+    }
+
+    /// Whether no token changes anything any more: a fault is known, or memory ran out.
+    pub fn is_over(&self) -> bool
+        ensures { result ≡ is_over self.now.stage }
+    {
+        matches!(self.stage, Stage::Faulty(_) | Stage::OutOfMemory)
     }
 
     /// The graph, where the input ends at this place and has no further token. Takes no memory.

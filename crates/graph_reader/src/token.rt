@@ -17,3 +17,12 @@ pub struct Found {
     pub at: u64,
     pub token: Token,
 }
+
+/// Three tokens, as an edge has, and how many bytes they are with what ends them.
+#[derive(Clone, Copy)]
+pub struct EdgeTokens {
+    pub u: Found,
+    pub v: Found,
+    pub w: Found,
+    pub count: usize,
+}

@@ -1,6 +1,6 @@
 use Rattle.std.proofs.Common.{◌≤◌, sym, arith}
 use Rattle.std.proofs.lemmas.List.{take_more}
-use Rattle.graph_reader.proofs.Digits.{digit-more, value-more}
+use Rattle.graph_reader.proofs.Runs.{digit-more, value-more}
 use Rattle.graph_reader.proofs.lexer.read_digits.Goals as goal
 
 pub loop-count-preserved : goal.loop-count-preserved

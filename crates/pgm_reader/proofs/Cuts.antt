@@ -20,11 +20,11 @@ line_end-is_space : (b : ℕ) → is_line_end b ≡ true → is_space b ≡ true
 line_end-is_space b e = grind (arith, e)
 
 -- one byte more of the white space before a token
-gap-more : (within into : Bool) (b c : ℕ) (bs : List ℕ) → blanked within (b ∷ bs) ≡ c ∷ blanked into bs → is_space c ≡ true → gap within (b ∷ bs) ≡ suc (gap into bs)
+pub gap-more : (within into : Bool) (b c : ℕ) (bs : List ℕ) → blanked within (b ∷ bs) ≡ c ∷ blanked into bs → is_space c ≡ true → gap within (b ∷ bs) ≡ suc (gap into bs)
 unfolding gap
 gap-more within into b c bs e s = rw (e, s, one-add) refl
 
-cut-more : (hash within into : Bool) (place b : ℕ) (bs : List ℕ) → gap within (b ∷ bs) ≡ suc (gap into bs) → cut hash within place (b ∷ bs) ≡ cut hash into (place + 1) bs
+pub cut-more : (hash within into : Bool) (place b : ℕ) (bs : List ℕ) → gap within (b ∷ bs) ≡ suc (gap into bs) → cut hash within place (b ∷ bs) ≡ cut hash into (place + 1) bs
 unfolding cut
 cut-more hash within into place b bs e = rw (e, shift place (gap into bs)) refl
 
@@ -49,14 +49,14 @@ gap-none : (b : ℕ) (bs : List ℕ) → b ≢ 35 → is_space b ≡ false → g
 unfolding gap
 gap-none b bs e s = rw (blanked-other b bs e, s) refl
 
-ends-not : (hash : Bool) (b : ℕ) → is_space b ≡ false → b ≢ 35 → ends_token hash b ≡ false
+pub ends-not : (hash : Bool) (b : ℕ) → is_space b ≡ false → b ≢ 35 → ends_token hash b ≡ false
 ends-not true b s e = rw (s, ne_eqb b 35 e) refl
 ends-not false b s e = rw s refl
 
-text-ends : (hash : Bool) (b : ℕ) (bs : List ℕ) → ends_token hash b ≡ true → before_first (ends_token hash) (b ∷ bs) ≡ []
+pub text-ends : (hash : Bool) (b : ℕ) (bs : List ℕ) → ends_token hash b ≡ true → before_first (ends_token hash) (b ∷ bs) ≡ []
 text-ends hash b bs e = rw e refl
 
-text-more : (hash : Bool) (b : ℕ) (bs : List ℕ) → ends_token hash b ≡ false → before_first (ends_token hash) (b ∷ bs) ≡ b ∷ before_first (ends_token hash) bs
+pub text-more : (hash : Bool) (b : ℕ) (bs : List ℕ) → ends_token hash b ≡ false → before_first (ends_token hash) (b ∷ bs) ≡ b ∷ before_first (ends_token hash) bs
 text-more hash b bs e = rw (e, one-add) refl
 
 pub between-begin : (text : Text) (hash : Bool) (place b : ℕ) (rest : List ℕ) → b ≢ 35 → is_space b ≡ false

@@ -95,7 +95,7 @@ some-size : (small : Bool) → nat_lt 0 (if small then 1 else 2) ≡ true
 some-size true = refl
 some-size false = refl
 
-sample-cut : (end max k place : ℕ) → samples end max (suc k) place [] ≡ fault Truncated end 0
+pub sample-cut : (end max k place : ℕ) → samples end max (suc k) place [] ≡ fault Truncated end 0
 unfolding samples
 sample-cut end max k place = rw (some-size (nat_lt max 256)) refl
 

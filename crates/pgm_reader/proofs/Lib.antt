@@ -9,3 +9,6 @@ pub mod Grids
 pub mod Generating
 pub mod Spelled
 pub mod Unspelled
+pub mod Onward
+pub mod FirstFault
+pub mod HeaderTokens

@@ -8,11 +8,12 @@ use Rattle.pgm_reader.specs.declared.lexer.Lexer.{Lexer}
 use Rattle.pgm_reader.specs.declared.lexer.Lexer.TheVariants.{Between, Comment, Inside}
 use Rattle.pgm_reader.specs.declared.stage.Field.{Field}
 use Rattle.pgm_reader.specs.declared.stage.Field.TheVariants as fields
+use Rattle.pgm_reader.specs.declared.stage.Stage.{Stage}
 use Rattle.pgm_reader.specs.declared.stage.Stage.TheVariants as stages
 use Rattle.pgm_reader.specs.Raster.{Raster}
 use Rattle.pgm_reader.specs.Pgm.{CutToken, picture, settles, width_settles, height_settles, greatest_settles}
 use Rattle.pgm_reader.specs.Lexing.{next_token}
-use Rattle.pgm_reader.specs.Progress.{Progress, HasRead, Reads, Answers, reading, reading_at, settling_at, field_settles, is_out_of_memory, is_sized}
+use Rattle.pgm_reader.specs.Progress.{Progress, HasRead, Reads, Answers, reading, reading_at, settling_at, field_settles, is_over_at, is_over, with_more, is_out_at, is_out_of_memory, is_sized}
 use Rattle.pgm_reader.proofs.Cuts.{none-between, none-comment, last-inside}
 
 shift : (place n : ℕ) → place + suc n ≡ (place + 1) + n
@@ -38,6 +39,26 @@ read-more d e b bytes reads read = record {
       ∙ read.reading (back _ _ reads.out memory) (b ∷ rest)
       ∙ ap picture (sym (append_assoc bytes (b ∷ []) rest));
   settling = λ rest. reads.settling rest ∙ read.settling (b ∷ rest) ∙ ap settles (sym (append_assoc bytes (b ∷ []) rest));
+}
+
+over-reads : (s : Stage) (d e : Progress) (end to : ℕ) (ys zs : List ℕ) → is_over_at s ≡ true → is_out_at s ≡ false → reading_at s d end ys ≡ reading_at s e to zs
+unfolding reading_at
+over-reads (stages.Faulty f) d e end to ys zs over memory = refl
+over-reads stages.OutOfMemory d e end to ys zs over memory = cc
+over-reads _ d e end to ys zs over memory = cc
+
+over-settles : (s : Stage) (d e : Progress) (ys zs : List ℕ) → is_over_at s ≡ true → settling_at s d ys ≡ settling_at s e zs
+unfolding settling_at
+over-settles (stages.Faulty f) d e ys zs over = refl
+over-settles stages.OutOfMemory d e ys zs over = refl
+over-settles _ d e ys zs over = cc
+
+-- what follows a known fault is read by counting its bytes
+pub read-over : (d : Progress) (more bytes : List ℕ) → is_over d ≡ true → HasRead d bytes → HasRead (with_more d (length more)) (bytes ++ more)
+read-over d more bytes over read = record {
+  taken = rw (length-append, read.taken) refl;
+  reading = λ memory rest. over-reads d.stage _ d _ _ _ _ over memory ∙ read.reading memory (more ++ rest) ∙ ap picture (sym (append_assoc bytes more rest));
+  settling = λ rest. over-settles d.stage _ d _ _ over ∙ read.settling (more ++ rest) ∙ ap settles (sym (append_assoc bytes more rest));
 }
 
 pub sized-exact : (d : Progress) (bytes : List ℕ) → HasRead d bytes → is_sized d ≡ settles bytes

@@ -7,3 +7,5 @@ pub mod DecoderFields
 pub mod Grid
 pub mod Generator
 pub mod Spelling
+pub mod FirstFault
+pub mod HeaderTokens

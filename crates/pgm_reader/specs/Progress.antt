@@ -32,6 +32,19 @@ is_out_at _ = false
 abbrev pub is_out_of_memory : Progress → Bool
 is_out_of_memory d = is_out_at d.stage
 
+-- no byte changes anything any more but the number of bytes: a fault is known, or memory ran out
+abbrev pub is_over_at : Stage → Bool
+is_over_at (stages.Faulty f) = true
+is_over_at stages.OutOfMemory = true
+is_over_at _ = false
+
+abbrev pub is_over : Progress → Bool
+is_over d = is_over_at d.stage
+
+-- so many bytes more were fed, and nothing else changed
+abbrev pub with_more : Progress → ℕ → Progress
+with_more d count = record { taken = d.taken + count; stage = d.stage; width = d.width; height = d.height; max = d.max; samples = d.samples }
+
 -- whether a `#` ends the token of this field
 abbrev pub hash_ends : Field → Bool
 hash_ends fields.Width = true

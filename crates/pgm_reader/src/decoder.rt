@@ -3,7 +3,7 @@
 ghost use Rattle.std.specs.Prelude.{◌≡◌, ◌≢◌, ◌+◌, ◌*◌, ◌^◌, ◌<◌, ◌≤◌, ◌↔◌, ℕ, List, [], ◌∷◌, ◌++◌, Bool, true, false, length, IsTrue, IsFalse, IfOk, MatchResult, Err, is_err};
 ghost use Rattle.pgm_reader.specs.Pgm.{is_picture, ends_token, picture, settles};
 ghost use Rattle.pgm_reader.specs.Lexing.{HasDigits};
-ghost use Rattle.pgm_reader.specs.Progress.{HasRead, Answers, Reads, TakesToken, TakesSample, IsAmongSamples, IsFaultOf, hash_ends, is_out_of_memory, is_sized, reading};
+ghost use Rattle.pgm_reader.specs.Progress.{HasRead, Answers, Reads, TakesToken, TakesSample, IsAmongSamples, IsFaultOf, hash_ends, is_over, with_more, is_out_of_memory, is_sized, reading};
 
 use crate::lexer::{Found, Lexer, Step, ends_token};
 use crate::picture::Picture;
@@ -108,10 +108,30 @@ impl PictureDecoder {
         ensures memory { is_err result ≡ is_out_of_memory self.new }
         ensures stays { IsTrue (is_out_of_memory self.old) → IsTrue (is_out_of_memory self.new) }
         ensures sized { IsTrue (is_sized self.old) → IsTrue (is_sized self.new) × (is_out_of_memory self.new ≡ is_out_of_memory self.old) }
+        // After a known fault, or where memory ran out, only the number of bytes changes.
+        ensures frozen { IsTrue (is_over self.old) → self.new ≡ with_more self.old (length piece.now) }
     {
+        if self.is_over() {
+            self.taken += piece.len() as u64;
+            return self.memory();
+        }
         for b in piece {
             self.read(*b);
         }
+        self.memory()
+    }
+
+    // Whether no byte changes anything any more but the number of bytes: a fault is known, or memory ran out.
+    fn is_over(&self) -> bool
+        ensures { result ≡ is_over self.now }
+    {
+        matches!(self.stage, Stage::Faulty(_) | Stage::OutOfMemory)
+    }
+
+    // An error where memory ran out.
+    fn memory(&self) -> Result<(), OutOfMemory>
+        ensures { is_err result ≡ is_out_of_memory self.now }
+    {
         if matches!(self.stage, Stage::OutOfMemory) {
             Err(OutOfMemory)
         } else {

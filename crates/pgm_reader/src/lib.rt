@@ -13,7 +13,7 @@ mod stage;
 
 pub use decoder::{PictureDecoder, is_picture, read_picture};
 pub use grid::graph_of;
-pub use laws::pictures_are_spellings;
+pub use laws::{header_tokens_are_tokens, picture_faults_are_the_first, pictures_are_spellings};
 pub use made::make_picture;
 pub use picture::Picture;
 

@@ -1,6 +1,6 @@
-use Rattle.std.proofs.Common.{◌∙◌, ◌++◌, take, arith, append_assoc}
+use Rattle.std.proofs.Common.{sym, ◌∙◌, ◌++◌, take, arith, append_assoc}
 use Rattle.std.proofs.lemmas.List.{take_more}
-use Rattle.pgm_reader.proofs.Reading.{read-more}
+use Rattle.pgm_reader.proofs.Reading.{read-more, read-over}
 use Rattle.pgm_reader.proofs.decoder.PictureDecoder.feed.Goals as goal
 
 pub loop-b-preserved : goal.loop-b-preserved
@@ -16,3 +16,6 @@ loop-b-preserved c = record {
       let after = c.read.ensures.sized before.0 in
       (after.0, after.1 ∙ before.1);
 }
+
+pub returns-then-is_over-clause-read : goal.returns-then-is_over-clause-read
+returns-then-is_over-clause-read c = λ bytes read. read-over _ c.args.piece.now bytes (rw (← c.self.view_is) at (sym c.if-is_over.ensures)) (rw (← c.self.view_is) at read)

@@ -1,7 +1,7 @@
 -- The edges of a graph by rank, read by their numbers.
-use Rattle.std.proofs.Common.{◌≡◌, ℕ, zero, suc, ◌+◌, ◌<◌, ◌≤◌, inl, inr, refl, sym, ◌∙◌, subst, ap, arith, List, [], ◌∷◌, ◌++◌, Some, slice_get, All, length, get_or, map, take}
+use Rattle.std.proofs.Common.{◌≡◌, ℕ, zero, suc, ◌+◌, ◌<◌, ◌≤◌, inl, inr, refl, sym, ◌∙◌, subst, ap, arith, List, [], ◌∷◌, ◌++◌, Some, slice_get, All, length, get_or, slice_index, map}
 use Rattle.std.specs.List.{range_with_len}
-use Rattle.std.proofs.lemmas.List.{get_or-map, take_more}
+use Rattle.std.proofs.lemmas.List.{get_or-map, get_or_default, length-map}
 use Rattle.std.proofs.lemmas.List.FromFn.{length-map-range_with_len, get_or-map-range_with_len, map-range_with_len_more}
 use Rattle.std.proofs.lemmas.Option.{slice_get-get_or}
 use Rattle.hg_base.specs.Graph.{WeightedGraph, JoinsTwo, first_end, second_end}
@@ -9,9 +9,13 @@ use Rattle.hg_base.specs.Edges.{ListedEdge, EdgeList, IsIn}
 use Rattle.hg_base.specs.Rank.{number_at, listed, ranked}
 use Rattle.hg_base.specs.Rising.{IsRising}
 use Rattle.hg_base.specs.declared.graph.Edge.{Edge}
+use Rattle.edge_order.specs.Order.{EdgeOrder, number_at_rank, order_of}
+use Rattle.edge_order.proofs.Rows.{number_at_rank-of}
 use Rattle.hg_base.proofs.Ranked.{ranked-at}
 use Rattle.hg_base.proofs.Ranks.{number_at-below}
+use Rattle.tile_plan.specs.Placing.{AreKeys}
 use Rattle.tile_plan.specs.Plan.{IsEdgeAmong}
+use Rattle.tile_plan.proofs.Filled.{map_by_each}
 use Rattle.tile_plan.proofs.Scatter.{IsIn-push, IsRising-push}
 
 -- there are as many ranks as edges
@@ -54,13 +58,6 @@ ranked-among g all few e i =
     let second : e.v ≡ x.v = ap (λ (y : ListedEdge). y.v) at.1 ∙ rw read refl in
     record { u = omega (arith, first, ends.u); v = omega (arith, second, ends.v); apart = λ same. ends.apart (sym first ∙ same ∙ second); rank = omega (arith, at.0) }
 
--- one more ranked edge
-pub ranked-next : (g : WeightedGraph) (k : ℕ) → k < length g.edges → take (k + 1) (ranked g) ≡ take k (ranked g) ++ listed g k (number_at g k) ∷ []
-ranked-next g k l =
-    let at = λ (j : ℕ). listed g j (number_at g j) in
-    take_more (ranked g) k (at 0) (omega (arith, ranked-length g))
-    ∙ ap (λ (e : ListedEdge). take k (ranked g) ++ e ∷ []) (get_or-map-range_with_len at 0 (length g.edges) k k (at 0) l (omega arith))
-
 -- what is kept of each edge by its number is read by rank
 pub kept-read : (lot : ℕ → ℕ → ℕ) (g : WeightedGraph) (own : List ℕ) (k number r : ℕ) → own ≡ map (λ (x : Edge). lot x.u x.v) g.edges → k < length g.edges → number ≡ number_at g k → r ≡ get_or own number r
     → r ≡ lot (first_end g (number_at g k)) (second_end g (number_at g k))
@@ -74,3 +71,41 @@ kept-read lot g own k number r same l at read =
     read ∙ ap (λ (j : ℕ). get_or own j r) at ∙ ap (λ (xs : List ℕ). get_or xs (number_at g k) r) same
     ∙ get_or-map (λ (y : Edge). lot y.u y.v) g.edges (number_at g k) none r low
     ∙ sym (ap (λ (j : ℕ). lot j (second_end g (number_at g k))) first ∙ ap (lot x.u) second)
+
+-- the list by rank is read from the one by number
+abbrev pub AreRead : EdgeOrder → List ℕ → List ℕ → Type 0
+AreRead o own filled = (i : ℕ) → i < length o.edges → slice_index filled i ≡ slice_index own (number_at_rank o i)
+
+-- what is kept of each edge by its number is kept by rank
+kept-all : (lot : ℕ → ℕ → ℕ) (g : WeightedGraph) (own filled : List ℕ) → own ≡ map (λ (x : Edge). lot x.u x.v) g.edges → length filled ≡ length (ranked g) → AreRead (order_of g) own filled
+    → filled ≡ map (λ (e : ListedEdge). lot e.u e.v) (ranked g)
+kept-all lot g own filled same long at =
+    map_by_each (λ (e : ListedEdge). lot e.u e.v) (ranked g) filled long
+    (λ k d e l.
+    let within : k < length g.edges = omega (arith, ranked-length g) in
+    let number = number_at_rank (order_of g) k in
+    let found : number ≡ number_at g k = number_at_rank-of g k within in
+    let many : length own ≡ length g.edges = ap length same ∙ length-map g.edges (λ (x : Edge). lot x.u x.v) in
+    let low : number < length own = omega (arith, found, many, number_at-below g k (omega arith)) in
+    get_or_default filled k e 0 (omega arith) ∙ at k l
+    ∙ kept-read lot g own k number (slice_index own number) same within found (get_or_default own number 0 (slice_index own number) low)
+    ∙ sym (ap (λ (x : ListedEdge). lot x.u x.v) (get_or-map-range_with_len (λ (j : ℕ). listed g j (number_at g j)) 0 (length g.edges) k k d within (omega arith))))
+
+pub kept-by_rank : (lot : ℕ → ℕ → ℕ) (g : WeightedGraph) (o : EdgeOrder) (own filled : List ℕ) → o ≡ order_of g → own ≡ map (λ (x : Edge). lot x.u x.v) g.edges → length filled ≡ length o.edges → AreRead o own filled
+    → filled ≡ map (λ (e : ListedEdge). lot e.u e.v) o.edges
+kept-by_rank lot g o own filled order same =
+    let P : EdgeOrder → Type 0 = λ z. length filled ≡ length z.edges → AreRead z own filled → filled ≡ map (λ (e : ListedEdge). lot e.u e.v) z.edges in
+    subst P (sym order) (kept-all lot g own filled same)
+
+-- and so is what each is below
+keys-all : (m : ℕ) (g : WeightedGraph) (own filled : List ℕ) → length own ≡ length g.edges → length filled ≡ length (ranked g) → AreRead (order_of g) own filled → AreKeys m own → AreKeys m filled
+keys-all m g own filled many long at keys i l =
+    let within : i < length g.edges = omega (arith, ranked-length g) in
+    let number = number_at_rank (order_of g) i in
+    let low : number < length own = omega (arith, number_at_rank-of g i within, number_at-below g i (omega arith)) in
+    omega (arith, at i (omega arith), keys number low)
+
+pub keys-by_rank : (m : ℕ) (g : WeightedGraph) (o : EdgeOrder) (own filled : List ℕ) → o ≡ order_of g → length own ≡ length g.edges → length filled ≡ length o.edges → AreRead o own filled → AreKeys m own → AreKeys m filled
+keys-by_rank m g o own filled order many =
+    let P : EdgeOrder → Type 0 = λ z. length filled ≡ length z.edges → AreRead z own filled → AreKeys m own → AreKeys m filled in
+    subst P (sym order) (keys-all m g own filled many)

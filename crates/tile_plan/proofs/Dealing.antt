@@ -7,17 +7,10 @@ use Rattle.hg_base.specs.declared.graph.PlacedEdge.{PlacedEdge}
 use Rattle.hg_base.specs.declared.graph.RankedEdge.{RankedEdge}
 use Rattle.edge_order.specs.Order.{with_number}
 use Rattle.tile_plan.specs.Placing.{place_by}
+use Rattle.tile_plan.specs.Dealing.{no_edge, laid}
 use Rattle.tile_plan.proofs.Counting.{place-below, place-once}
 use Rattle.tile_plan.proofs.Reading.{onto}
 use Rattle.tile_plan.proofs.Scatter.{placed_lot}
-
--- an edge that stands for none
-abbrev pub no_edge : ListedEdge
-no_edge = record { rank = 0; u = 0; v = 0; weight = 0; number = 0 }
-
--- the edge of a rank, between places
-abbrev pub laid : List ℕ → EdgeList → ℕ → PlacedEdge
-laid places s r = placed (renamed_edge (slice_index places) (get_or s r no_edge))
 
 -- what is made of the edge at a rank
 pub laid-made : (places : List ℕ) (s : EdgeList) (r number : ℕ) (e : RankedEdge) → e.rank ≡ r → slice_get s r ≡ Some (with_number e number)

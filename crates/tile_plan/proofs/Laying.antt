@@ -133,7 +133,7 @@ vertex-tile f v h =
 block-some : (w s : ℕ) → 1 ≤ w → 1 ≤ s → 1 ≤ div_ceil w s
 block-some w s hw hs = let b = block-below 0 w s hs (omega arith) in omega (arith, b)
 
-block-few : (w s : ℕ) → 1 ≤ s → div_ceil w s ≤ w
+pub block-few : (w s : ℕ) → 1 ≤ s → div_ceil w s ≤ w
 block-few w s hs =
     elim (cases_lt w (div_ceil w s)) [
       | inl more ↦ absurd (let times = (div_ceil_times w s (omega arith)).1 in

@@ -12,5 +12,7 @@ pub mod Ranges
 pub mod Reading
 pub mod Edges
 pub mod RootEdges
+pub mod Filled
 pub mod ByNumber
 pub mod Dealing
+pub mod Cutting

@@ -3,6 +3,7 @@ pub mod Sites
 pub mod Grids
 pub mod Frames
 pub mod Placing
+pub mod Dealing
 pub mod Plan
 pub mod PlanFields
 pub mod Laws

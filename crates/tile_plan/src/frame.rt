@@ -1,8 +1,9 @@
-ghost use Rattle.std.specs.Prelude.{◌≡◌, ◌≤◌};
+ghost use Rattle.std.specs.Prelude.{◌≡◌, ◌≤◌, ◌*◌};
 ghost use Rattle.tile_plan.specs.Grids.{IsSmall, tiles_in};
 ghost use Rattle.tile_plan.specs.Frames.{grid_in, IsFrame};
 
 use crate::site::Grid;
+use hg_base::Graph;
 
 // A picture of vertices, row after row, and the side of its tiles.
 #[derive(Clone, Copy)]
@@ -13,6 +14,35 @@ pub(crate) struct Frame {
 }
 
 impl Frame {
+    // The vertices of a graph in one row, with tiles of this side.
+    pub(crate) fn row(graph: &Graph, side: u32) -> Frame
+        requires { 1 ≤ side }
+        ensures value { result ≡ record { width = graph.now.n; height = 1; side = side } }
+        ensures frame { IsFrame result }
+    {
+        Frame {
+            width: graph.n(),
+            height: 1,
+            side,
+        }
+    }
+
+    // The vertices of a graph as the pixels of a picture, with tiles of this side.
+    pub(crate) fn picture(graph: &Graph, width: u32, height: u32, side: u32) -> Frame
+        requires side { 1 ≤ side }
+        requires pixels { width * height ≡ graph.now.n }
+        ensures value { result ≡ record { width = width; height = height; side = side } }
+        ensures frame { IsFrame result }
+    {
+        // That the graph has from 1 to 1,048,576 vertices.
+        let _ = graph.n();
+        Frame {
+            width,
+            height,
+            side,
+        }
+    }
+
     // The grid of the tiles.
     pub(crate) fn grid(self) -> Grid
         requires { IsFrame self }

@@ -1,8 +1,18 @@
 //! What holds of every plan, each law as the contract of a function that does nothing.
-ghost use Rattle.std.specs.Prelude.{◌≡◌, ℕ, ◌<◌, ◌≤◌, length};
+ghost use Rattle.std.specs.Prelude.{◌≡◌, ℕ, ◌/◌, ◌<◌, ◌≤◌, length};
+ghost use Rattle.hg_base.specs.Graph.{WeightedGraph};
 ghost use Rattle.hg_base.specs.Edges.{ListedEdge, IsIn, IsOneToOne, IsSameSet, chain, joins, renamed};
-ghost use Rattle.tile_plan.specs.Plan.{TilePlan, IsPlan, edges_at, lot_between_vertices, lot_edges, part_count, place_of, root, tile_count, vertices};
+ghost use Rattle.tile_plan.specs.Merges.{IsCut};
+ghost use Rattle.tile_plan.specs.Plan.{TilePlan, IsPlan, blocks, edges_at, grid_of, home, lot_between_vertices, lot_edges, part, part_count, place_of, root, tile_count, vertices};
 ghost use Rattle.tile_plan.specs.Laws.{Crosses, HasEdges, HasHalves, HasMother, IsSomewhere, IsTile, JoinsHalves};
+
+/// The tree of the root cuts the grid of tiles: a rectangle of more than one tile is halved by columns where it has at
+/// least as many of them as rows, else by rows, and the first half is the greater. In blocks of `size` vertices vertex
+/// v is in tile v / `size`.
+pub fn cutting_of_a_plan()
+    ensures tree { (p : TilePlan) → IsPlan p → IsCut (grid_of p).columns (grid_of p).rows (part p (root p)).tree }
+    ensures blocks { (g : WeightedGraph) (size v : ℕ) → IsPlan (blocks g size) → v < g.n → home (blocks g size) v ≡ v / size }
+{}
 
 /// Each part but the root is a half of a later merge, and each merge has two halves, whose tiles and places follow
 /// each other.

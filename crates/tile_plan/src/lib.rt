@@ -2,8 +2,10 @@
 #![tactic(auto)]
 
 mod fault;
+mod filling;
 mod frame;
 pub mod laws;
+mod lists;
 mod placing;
 mod plan;
 mod site;

@@ -10,14 +10,16 @@ ghost use Rattle.tile_plan.specs.Plan.{TilePlan, IsAnswer, IsEdgeAmong, IsLarges
 ghost use Rattle.tile_plan.specs.PlanFields.{HoldsLots, HoldsPlaces};
 
 use crate::fault::PlanFault;
+use crate::filling::{Filling, InThreads, InTurn};
 use crate::frame::Frame;
 use crate::site::{Grid, Row, Side, Site};
-use crate::{placing, tables};
+use crate::{lists, placing, tables};
 use edge_order::Order;
 use hg_base::{Graph, PlacedEdge, Room};
 use std::alloc::{AllocError, Global};
 use std::marker::Model;
 use std::snapshot::Snapshot;
+use std::thread::Threads;
 
 // The first place of each tile, and the place of each vertex.
 #[derive(Drop)]
@@ -72,7 +74,8 @@ fn places_of(alloc: Global, tiles: u32, homes: &[u32]) -> Result<Places, AllocEr
 }
 
 // The lots of all parts, by the tile and the place of each vertex.
-fn lots_of(
+fn lots_of<W: Filling>(
+    filling: &W,
     alloc: Global,
     graph: &Graph,
     order: &Order,
@@ -80,6 +83,7 @@ fn lots_of(
     homes: &[u32],
     places: &[u32],
 ) -> Result<Lots, AllocError>
+    requires ready { W.ready }
     requires order { order.now ≡ order_of graph.now }
     requires small { IsSmall grid }
     requires homes { AreKeys (tiles_in grid) homes.now }
@@ -91,9 +95,9 @@ fn lots_of(
     ensures lots { IfOk result (λ lots. (q : TilePlan) → IsPlan q → q.edges ≡ order.now.edges → grid ≡ grid_of q
         → IsTable (home q) (vertices q) homes.now → IsTable (place_of q) (vertices q) places.now → HoldsLots q lots) }
 {
-    let numbers = tables::lot_numbers(alloc, graph, order, grid, homes)?;
+    let numbers = lists::lot_numbers(filling, alloc, graph, order, grid, homes)?;
     let starts = placing::starts(alloc, &numbers, 2 * grid.tiles() - 1)?;
-    let edges = tables::lots(alloc, order, &numbers, &starts, places)?;
+    let edges = lists::lots(filling, alloc, order, &numbers, &starts, places)?;
     Ok(Lots { starts, edges })
 }
 
@@ -104,12 +108,23 @@ impl Plan {
         requires order { order.now ≡ order_of graph.now }
         ensures { IsAnswer (blocks graph.now tile) result }
     {
-        let frame = Frame {
-            width: graph.n(),
-            height: 1,
-            side: tile,
-        };
-        Plan::over(alloc, graph, order, frame)
+        Plan::over(&InTurn, alloc, graph, order, Frame::row(graph, tile))
+    }
+
+    /// `blocks` in as many threads as can be had.
+    pub fn blocks_in_threads(
+        rt: &(impl Threads + Sync),
+        alloc: Global,
+        graph: &Graph,
+        order: &Order,
+        tile: u32,
+    ) -> Result<Plan, PlanFault>
+        requires tile { 1 ≤ tile }
+        requires order { order.now ≡ order_of graph.now }
+        ensures { IsAnswer (blocks graph.now tile) result }
+    {
+        let threads = InThreads { rt };
+        Plan::over(&threads, alloc, graph, order, Frame::row(graph, tile))
     }
 
     /// The plan of a graph whose vertices are the pixels of a picture, row after row, and whose tiles are squares of
@@ -127,18 +142,39 @@ impl Plan {
         requires pixels { width * height ≡ graph.now.n }
         ensures { IsAnswer (squares graph.now width height tile) result }
     {
-        // That the graph has from 1 to 1,048,576 vertices.
-        let _ = graph.n();
-        let frame = Frame {
-            width,
-            height,
-            side: tile,
-        };
-        Plan::over(alloc, graph, order, frame)
+        let frame = Frame::picture(graph, width, height, tile);
+        Plan::over(&InTurn, alloc, graph, order, frame)
+    }
+
+    /// `squares` in as many threads as can be had.
+    pub fn squares_in_threads(
+        rt: &(impl Threads + Sync),
+        alloc: Global,
+        graph: &Graph,
+        order: &Order,
+        width: u32,
+        height: u32,
+        tile: u32,
+    ) -> Result<Plan, PlanFault>
+        requires tile { 1 ≤ tile }
+        requires order { order.now ≡ order_of graph.now }
+        requires pixels { width * height ≡ graph.now.n }
+        ensures { IsAnswer (squares graph.now width height tile) result }
+    {
+        let threads = InThreads { rt };
+        let frame = Frame::picture(graph, width, height, tile);
+        Plan::over(&threads, alloc, graph, order, frame)
     }
 
     // The plan over a frame.
-    fn over(alloc: Global, graph: &Graph, order: &Order, frame: Frame) -> Result<Plan, PlanFault>
+    fn over<W: Filling>(
+        filling: &W,
+        alloc: Global,
+        graph: &Graph,
+        order: &Order,
+        frame: Frame,
+    ) -> Result<Plan, PlanFault>
+        requires ready { W.ready }
         requires order { order.now ≡ order_of graph.now }
         requires frame { IsFrame frame }
         requires vertices { order.now.n ≡ vertices_in frame }
@@ -148,10 +184,17 @@ impl Plan {
         if tiles > 65536 {
             return Err(PlanFault::TooManyTiles(u64::from(tiles)));
         }
-        Plan::laid(alloc, graph, order, frame).map_err(|_| PlanFault::OutOfMemory)
+        Plan::laid(filling, alloc, graph, order, frame).map_err(|_| PlanFault::OutOfMemory)
     }
 
-    fn laid(alloc: Global, graph: &Graph, order: &Order, frame: Frame) -> Result<Plan, AllocError>
+    fn laid<W: Filling>(
+        filling: &W,
+        alloc: Global,
+        graph: &Graph,
+        order: &Order,
+        frame: Frame,
+    ) -> Result<Plan, AllocError>
+        requires ready { W.ready }
         requires order { order.now ≡ order_of graph.now }
         requires frame { IsFrame frame }
         requires vertices { order.now.n ≡ vertices_in frame }
@@ -161,9 +204,10 @@ impl Plan {
         let grid = frame.grid();
         let tiles = grid.tiles();
         let rows = tables::parts(alloc, grid)?;
-        let homes = tables::homes(alloc, frame, grid, &tables::tile_numbers(alloc, grid)?)?;
+        let numbers = tables::tile_numbers(alloc, grid)?;
+        let homes = lists::homes(filling, alloc, frame, grid, &numbers)?;
         let places = places_of(alloc, tiles, &homes)?;
-        let lots = lots_of(alloc, graph, order, grid, &homes, &places.places)?;
+        let lots = lots_of(filling, alloc, graph, order, grid, &homes, &places.places)?;
         Ok(Plan {
             frame,
             tiles,

@@ -1,6 +1,6 @@
-ghost use Rattle.std.specs.Prelude.{◌≡◌, ℕ, ◌+◌, ◌-◌, ◌*◌, ◌<◌, ◌≤◌, ◌==◌, IfOk, length, map, filter, slice_index, slice_range, All};
-ghost use Rattle.hg_base.specs.Graph.{JoinsTwo};
-ghost use Rattle.edge_order.specs.Order.{order_of};
+ghost use Rattle.std.specs.Prelude.{◌≡◌, ℕ, ◌+◌, ◌-◌, ◌*◌, ◌<◌, ◌≤◌, ◌==◌, IfOk, get_or, length, map, filter, slice_index, slice_range};
+ghost use Rattle.hg_base.specs.declared.graph.PlacedEdge.{PlacedEdge};
+ghost use Rattle.edge_order.specs.Order.{number_at_rank, order_of};
 ghost use Rattle.hg_base.specs.Edges.{ListedEdge, IsIn, renamed};
 ghost use Rattle.hg_base.specs.Placed.{placed};
 ghost use Rattle.hg_base.specs.Rising.{IsRising};
@@ -8,7 +8,9 @@ ghost use Rattle.tile_plan.specs.Grids.{IsSmall, lot_in, root_of, rows_of, tile_
 ghost use Rattle.tile_plan.specs.Frames.{grid_in, home_in, IsFrame, vertices_in};
 ghost use Rattle.tile_plan.specs.Placing.{AreKeys, IsTable, start_by};
 ghost use Rattle.tile_plan.specs.Plan.{IsEdgeAmong};
+ghost use Rattle.tile_plan.specs.Dealing.{IsLotOf, laid};
 
+use crate::filling::Filling;
 use crate::frame::Frame;
 use crate::placing;
 use crate::site::{Grid, Row, Site, find, lot_of};
@@ -57,28 +59,19 @@ pub(crate) fn tile_numbers(alloc: Global, grid: Grid) -> Result<Vec<u32>, AllocE
     Ok(numbers)
 }
 
-// The tile of each vertex.
-pub(crate) fn homes(
-    alloc: Global,
-    frame: Frame,
-    grid: Grid,
-    numbers: &[u32],
-) -> Result<Vec<u32>, AllocError>
+// The tile of a vertex.
+pub(crate) fn home(frame: Frame, grid: Grid, numbers: &[u32], vertex: u32) -> u32
     requires frame { IsFrame frame }
     requires grid { grid ≡ grid_in frame }
     requires small { IsSmall grid }
     requires numbers { IsTable (tile_in grid) (tiles_in grid) numbers.now }
-    ensures { IfOk result (λ v. IsTable (home_in frame) (vertices_in frame) v.items) }
+    requires vertex { vertex < vertices_in frame }
+    ensures { result ≡ home_in frame vertex }
 {
-    let n = frame.width * frame.height;
-    let mut homes = Vec::with_capacity(alloc, n as usize)?;
-    for vertex in 0..n {
-        let column = vertex % frame.width / frame.side;
-        let row = vertex / frame.width / frame.side;
-        let place = row * grid.columns + column;
-        homes.push(numbers[place as usize])?;
-    }
-    Ok(homes)
+    let column = vertex % frame.width / frame.side;
+    let row = vertex / frame.width / frame.side;
+    let place = row * grid.columns + column;
+    numbers[place as usize]
 }
 
 // The part in whose lot an edge between two tiles is.
@@ -96,83 +89,37 @@ fn lot_between(grid: Grid, first: u32, second: u32) -> u32
     lot_of(n, grid, root(n), first, second)
 }
 
-// The part in whose lot each edge is, by number.
-fn lots_by_number(
-    alloc: Global,
-    graph: &Graph,
-    grid: Grid,
-    homes: &[u32],
-) -> Result<Vec<u32>, AllocError>
+// The part in whose lot an edge is, by the tiles of the vertices.
+pub(crate) fn lot_at(graph: &Graph, grid: Grid, homes: &[u32], number: u32) -> u32
     requires small { IsSmall grid }
     requires homes { AreKeys (tiles_in grid) homes.now }
     requires vertices { graph.now.n ≡ length homes.now }
-    ensures numbers { IfOk result (λ v. v.items ≡ map (λ e. lot_in grid (slice_index homes.now e.u) (slice_index homes.now e.v)) graph.now.edges) }
-    ensures below { IfOk result (λ v. AreKeys (2 * tiles_in grid - 1) v.items) }
-    ensures ends { IfOk result (λ _. All (JoinsTwo graph.now.n) graph.now.edges) }
+    requires number { number < length graph.now.edges }
+    ensures { IsLotOf grid homes.now graph.now.edges number result }
 {
-    let mut numbers = Vec::with_capacity(alloc, graph.m() as usize)?;
-    for number in 0..graph.m() {
-        let edge = graph.edge(number);
-        let first = homes[edge.u as usize];
-        let second = homes[edge.v as usize];
-        numbers.push(lot_between(grid, first, second))?;
-    }
-    Ok(numbers)
+    let edge = graph.edge(number);
+    lot_between(grid, homes[edge.u as usize], homes[edge.v as usize])
 }
 
-// The part in whose lot each edge is, by rank.
-pub(crate) fn lot_numbers(
-    alloc: Global,
-    graph: &Graph,
-    order: &Order,
-    grid: Grid,
-    homes: &[u32],
-) -> Result<Vec<u32>, AllocError>
-    requires order { order.now ≡ order_of graph.now }
-    requires small { IsSmall grid }
-    requires homes { AreKeys (tiles_in grid) homes.now }
-    requires vertices { order.now.n ≡ length homes.now }
-    ensures numbers { IfOk result (λ v. v.items ≡ map (λ e. lot_in grid (slice_index homes.now e.u) (slice_index homes.now e.v)) order.now.edges) }
-    ensures below { IfOk result (λ v. AreKeys (2 * tiles_in grid - 1) v.items) }
-    ensures few { IfOk result (λ _. length order.now.edges ≤ 4194304) }
-    ensures rising { IfOk result (λ _. IsRising order.now.edges) }
-    ensures edges { IfOk result (λ _. (e : ListedEdge) → IsIn e order.now.edges → IsEdgeAmong order.now.n e) }
+// What is kept of the edge at a rank, of a list by number.
+pub(crate) fn kept_at(order: &Order, own: &[u32], rank: u32) -> u32
+    requires own { length own.now ≡ length order.now.edges }
+    requires rank { rank < length order.now.edges }
+    ensures { result ≡ slice_index own.now (number_at_rank order.now rank) }
 {
-    let own = lots_by_number(alloc, graph, grid, homes)?;
-    let mut numbers = Vec::with_capacity(alloc, order.len() as usize)?;
-    for rank in 0..order.len() {
-        numbers.push(own[order.edge_at(rank) as usize])?;
-    }
-    Ok(numbers)
+    own[order.edge_at(rank) as usize]
 }
 
-// The edges between places, by lots and in a lot by rank.
-pub(crate) fn lots(
-    alloc: Global,
-    order: &Order,
-    numbers: &[u32],
-    starts: &[u32],
-    places: &[u32],
-) -> Result<Vec<PlacedEdge>, AllocError>
-    requires few { length numbers.now ≤ 4194304 }
-    requires numbers { length numbers.now ≡ length order.now.edges }
-    requires lots { (i : ℕ) → i < length numbers.now → slice_index numbers.now i + 1 < length starts.now }
-    requires starts { IsTable (start_by (slice_index numbers.now) (length numbers.now)) (length starts.now) starts.now }
+// The edge of a rank, between places.
+pub(crate) fn laid(order: &Order, places: &[u32], rank: u32) -> PlacedEdge
+    requires rank { rank < length order.now.edges }
     requires vertices { order.now.n ≡ length places.now }
-    ensures len { IfOk result (λ v. length v.items ≡ length order.now.edges) }
-    ensures lots { IfOk result (λ v. (lot : ListedEdge → ℕ) → numbers.now ≡ map lot order.now.edges → (i : ℕ) → i + 1 < length starts.now →
-        slice_range v.items (slice_index starts.now i) (slice_index starts.now (i + 1))
-        ≡ map placed (renamed (slice_index places.now) (filter (λ e. lot e == i) order.now.edges))) }
+    ensures { result ≡ laid places.now order.now.edges rank }
 {
-    let by_lot = placing::in_order(alloc, numbers, starts)?;
-    let mut lots = Vec::with_capacity(alloc, by_lot.len())?;
-    for rank in &by_lot {
-        let edge = order.at(*rank);
-        lots.push(PlacedEdge {
-            rank: *rank,
-            a: places[edge.u as usize],
-            b: places[edge.v as usize],
-        })?;
+    let edge = order.at(rank);
+    PlacedEdge {
+        rank,
+        a: places[edge.u as usize],
+        b: places[edge.v as usize],
     }
-    Ok(lots)
 }

@@ -1,4 +1,5 @@
-ghost use Rattle.std.specs.Prelude.{◌≤◌};
+ghost use Rattle.std.specs.Prelude.{◌≡◌, ◌*◌, ◌≤◌};
+ghost use Rattle.edge_order.specs.Order.{order_of};
 
 use super::Plan;
 use crate::fault::PlanFault;
@@ -115,5 +116,96 @@ fn at_most_65536_tiles(rt: HostRuntime) {
     ];
     for (n, shape, answer) in rows {
         assert_eq!(rt; tiles(&rt, rt.alloc(), n, shape), answer);
+    }
+}
+
+// A path of `n` vertices, whose edges have mixed weights.
+fn path(rt: &impl Abort, alloc: Global, n: u32) -> Result<Graph, AllocError> {
+    assert!(rt; 1 <= n && n <= 4096);
+    let mut edges = Vec::new(alloc);
+    for u in 0..n - 1 {
+        edges.push(Edge {
+            u,
+            v: u + 1,
+            w: u * 31 % 17,
+        })?;
+    }
+    Ok(Graph::new(n, edges))
+}
+
+// Compares what two plans tell.
+fn compare(rt: &impl Abort, one: &Plan, other: &Plan) {
+    assert_eq!(rt;
+        (one.tiles(), one.n(), one.root()),
+        (other.tiles(), other.n(), other.root())
+    );
+    for part in 0..=one.root() {
+        assert!(rt; part <= one.root() && part <= other.root());
+        assert_eq!(rt; one.range(part), other.range(part));
+        assert_eq!(rt; one.lot(part), other.lot(part));
+    }
+    for vertex in 0..one.n() {
+        assert!(rt; vertex < one.n() && vertex < other.n());
+        assert_eq!(rt; one.place_of(vertex), other.place_of(vertex));
+    }
+}
+
+// Compares the plans in blocks that are made with and without threads.
+fn compare_blocks(
+    rt: &(impl Abort + Threads + Sync),
+    alloc: Global,
+    graph: &Graph,
+    order: &Order,
+    tile: u32,
+) -> Result<(), PlanFault>
+    requires tile { 1 ≤ tile }
+    requires order { order.now ≡ order_of graph.now }
+{
+    let one = Plan::blocks(alloc, graph, order, tile)?;
+    let other = Plan::blocks_in_threads(rt, alloc, graph, order, tile)?;
+    compare(rt, &one, &other);
+    Ok(())
+}
+
+// Compares the plans in squares that are made with and without threads.
+fn compare_squares(
+    rt: &(impl Abort + Threads + Sync),
+    alloc: Global,
+    graph: &Graph,
+    order: &Order,
+    width: u32,
+    height: u32,
+    tile: u32,
+) -> Result<(), PlanFault>
+    requires tile { 1 ≤ tile }
+    requires order { order.now ≡ order_of graph.now }
+    requires pixels { width * height ≡ graph.now.n }
+{
+    let one = Plan::squares(alloc, graph, order, width, height, tile)?;
+    let other = Plan::squares_in_threads(rt, alloc, graph, order, width, height, tile)?;
+    compare(rt, &one, &other);
+    Ok(())
+}
+
+// Compares the plans of a path that are made with and without threads.
+fn compare_forms(
+    rt: &(impl Abort + Threads + Sync),
+    alloc: Global,
+    (width, height): (u32, u32),
+    tile: u32,
+) -> Result<(), PlanFault> {
+    assert!(rt; 1 <= tile && 1 <= width && 1 <= height);
+    assert!(rt; u64::from(width) * u64::from(height) <= 4096);
+    let graph = path(rt, alloc, width * height).map_err(|_| PlanFault::OutOfMemory)?;
+    let order = Order::of(rt, alloc, &graph).map_err(|_| PlanFault::OutOfMemory)?;
+    assert!(rt; width * height == graph.n());
+    compare_blocks(rt, alloc, &graph, &order, tile)?;
+    compare_squares(rt, alloc, &graph, &order, width, height, tile)
+}
+
+#[test]
+fn the_same_in_threads(rt: HostRuntime) {
+    for (picture, tile) in [((1, 1), 1), ((2, 1), 1), ((3, 2), 2), ((64, 63), 5)] {
+        assert_eq!(rt; compare_forms(&rt, rt.alloc(), picture, tile), Ok(()));
     }
 }

@@ -8,15 +8,15 @@ use Rattle.tile_plan.proofs.Agreeing.{keys-below, table-at, plan-is}
 use Rattle.tile_plan.proofs.plan.Plan.laid.Goals as goal
 
 pub places_of-requires-clause-homes : goal.places_of-requires-clause-homes
-places_of-requires-clause-homes c =
+places_of-requires-clause-homes g c =
     keys-below c.args.frame c.grid-grid.result c.tiles-tiles.result c.in_ok-homes.homes.items c.deref-2.result.now c.requires.frame c.grid-grid.ensures c.tiles-tiles.ensures.value c.in_ok-homes.ensures c.deref-2.ensures.value
 
 pub lots_of-requires-clause-homes : goal.lots_of-requires-clause-homes
-lots_of-requires-clause-homes c =
+lots_of-requires-clause-homes g c =
     keys-below c.args.frame c.grid-grid.result (tiles_in c.grid-grid.result) c.in_ok-homes.homes.items c.deref-3.result.now c.requires.frame c.grid-grid.ensures refl c.in_ok-homes.ensures c.deref-3.ensures.value
 
 pub lots_of-requires-clause-places : goal.lots_of-requires-clause-places
-lots_of-requires-clause-places c =
+lots_of-requires-clause-places g c =
     let q : TilePlan = record { frame = c.args.frame; edges = c.args.order.now.edges } in
     let places = c.in_ok-places.ensures q (c.tiles-tiles.ensures.value ∙ ap tiles_in c.grid-grid.ensures)
     (table-at (home q) (vertices q) c.in_ok-homes.homes.items c.deref-2.result.now c.deref-2.ensures.value c.in_ok-homes.ensures) in
@@ -24,7 +24,7 @@ lots_of-requires-clause-places c =
     ap length c.deref-4.ensures.value ∙ places.places.long ∙ sym (ap length c.deref-3.ensures.value ∙ homes)
 
 pub invariant_of-result : goal.invariant_of-result
-invariant_of-result c =
+invariant_of-result g c =
     let q : TilePlan = record { frame = c.args.frame; edges = c.of.result.value.edges } in
     let same : c.of.result.value.edges ≡ c.args.order.now.edges = ap (λ (o : EdgeOrder). o.edges) c.of.ensures in
     let count = c.tiles-tiles.ensures.value ∙ ap tiles_in c.grid-grid.ensures in

@@ -1,12 +1,13 @@
-ghost use Rattle.std.specs.Prelude.{◌≡◌, ◌≤◌, ℕ, vec_len, map, IfOk};
-ghost use Rattle.std.specs.List.{range_with_len};
-ghost use Rattle.node_region.specs.Pool.{count, leaf_of};
-ghost use Rattle.partition_tree.specs.Numbering.{AreCells, AreDrawn, node_above};
+ghost use Rattle.std.specs.Prelude.{◌≡◌, ◌≤◌, IfOk};
+ghost use Rattle.node_region.specs.Pool.{count};
+ghost use Rattle.partition_tree.specs.Numbering.{AreCells, AreDrawn, AreLinked, node_parents};
 
 use crate::edges::Edges;
-use crate::numbering::{Numbering, cells_by_rank, node_or};
+use crate::numbering::{Numbering, cells_by_rank};
+use crate::parents::{parents, parents_in_threads};
 use border_climb::Part;
 use std::alloc::{AllocError, Global};
+use std::thread::Threads;
 
 /// The lists of a tree: each node's parent and altitude, and each inner node's maker.
 #[derive(Drop)]
@@ -29,10 +30,8 @@ pub(crate) fn drawn<E: Edges>(
     requires few { ranks ≤ 4194304 }
     ensures { IfOk result (λ lists. AreDrawn part.now (E.vertices edges.now) ranks (E.place_at edges.now) (E.altitude_at edges.now) (E.number_at edges.now) lists.parents.items lists.altitudes.items lists.makers.items) }
 {
-    let cells = cells_by_rank(alloc, part, ranks)?;
-    let numbering = Numbering::of(alloc, edges, part, &cells)?;
-    let mut parents = leaf_parents(alloc, edges, part, &numbering)?;
-    numbering.push_inner_parents(part, &mut parents)?;
+    let numbering = numbered(alloc, edges, part, ranks)?;
+    let parents = parents(alloc, edges, part, &numbering)?;
     Ok(TreeLists {
         parents,
         altitudes: numbering.altitudes,
@@ -40,24 +39,42 @@ pub(crate) fn drawn<E: Edges>(
     })
 }
 
-// The parents of the leaves, with room for those of the other nodes.
-fn leaf_parents<E: Edges>(
+/// The same lists, with the parents found in as many threads as can be had.
+pub(crate) fn drawn_in_threads<E: Edges>(
+    rt: &(impl Threads + Sync),
     alloc: Global,
     edges: &E,
     part: &Part,
-    numbering: &Numbering,
-) -> Result<Vec<u32>, AllocError>
-    requires cells { (edges : ℕ) × AreCells part.now edges }
+    ranks: usize,
+) -> Result<TreeLists, AllocError>
+    requires cells { AreCells part.now (E.len edges.now) }
     requires places { count part.now.region ≡ E.vertices edges.now }
-    requires numbers { vec_len numbering.now.numbers ≡ count part.now.region }
-    requires few { vec_len numbering.now.made ≤ 4194304 }
-    ensures { IfOk result (λ parents. parents.items ≡ map (λ v. node_above numbering.now.numbers.items v (leaf_of part.now.region (E.place_at edges.now v))) (range_with_len 0 (E.vertices edges.now))) }
+    requires ranks { ranks ≡ E.len edges.now }
+    requires few { ranks ≤ 4194304 }
+    ensures { IfOk result (λ lists. AreDrawn part.now (E.vertices edges.now) ranks (E.place_at edges.now) (E.altitude_at edges.now) (E.number_at edges.now) lists.parents.items lists.altitudes.items lists.makers.items) }
 {
-    let n = edges.n();
-    let mut parents = Vec::with_capacity(alloc, n as usize + numbering.made.len())?;
-    for vertex in 0..n {
-        let above = part.up_of_place(edges.place(vertex));
-        parents.push(node_or(vertex, above, &numbering.numbers))?;
-    }
-    Ok(parents)
+    let numbering = numbered(alloc, edges, part, ranks)?;
+    let parents = parents_in_threads(rt, alloc, edges, part, &numbering)?;
+    Ok(TreeLists {
+        parents,
+        altitudes: numbering.altitudes,
+        makers: numbering.makers,
+    })
+}
+
+// The numbering of the cells of a part that was given edges of so many ranks.
+fn numbered<E: Edges>(
+    alloc: Global,
+    edges: &E,
+    part: &Part,
+    ranks: usize,
+) -> Result<Numbering, AllocError>
+    requires cells { AreCells part.now (E.len edges.now) }
+    requires ranks { ranks ≡ E.len edges.now }
+    requires few { ranks ≤ 4194304 }
+    ensures linked { IfOk result (λ numbering. AreLinked part.now numbering.made.items numbering.numbers.items) }
+    ensures drawn { IfOk result (λ numbering. AreDrawn part.now (E.vertices edges.now) ranks (E.place_at edges.now) (E.altitude_at edges.now) (E.number_at edges.now) (node_parents (E.vertices edges.now) (E.place_at edges.now) part.now.region numbering.made.items numbering.numbers.items) numbering.altitudes.items numbering.makers.items) }
+{
+    let cells = cells_by_rank(alloc, part, ranks)?;
+    Numbering::of(alloc, edges, part, &cells)
 }

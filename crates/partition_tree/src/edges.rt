@@ -1,7 +1,7 @@
 ghost use Rattle.std.specs.Prelude.{◌≡◌, ℕ, ◌<◌};
 
 /// What a tree reads of the edges that make it: each vertex's place in the part, and each rank's altitude and number.
-pub(crate) trait Edges {
+pub(crate) trait Edges: Sync {
     ghost vertices: { Self → ℕ };
 
     // How many ranks there are.

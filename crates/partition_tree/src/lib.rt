@@ -10,6 +10,7 @@ mod edges;
 mod laws;
 mod list;
 mod numbering;
+mod parents;
 mod planned;
 mod report;
 mod tree;

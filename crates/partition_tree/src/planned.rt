@@ -1,4 +1,4 @@
-ghost use Rattle.std.specs.Prelude.{◌≡◌, length, IfOk};
+ghost use Rattle.std.specs.Prelude.{◌≡◌, ℕ, length, IfOk};
 ghost use Rattle.hg_base.specs.Graph.{WeightedGraph};
 ghost use Rattle.hg_base.specs.Tree.{tree_of, graph_tree, IsFrontTree};
 ghost use Rattle.hg_base.specs.Rank.{ranked};
@@ -6,15 +6,17 @@ ghost use Rattle.node_region.specs.Pool.{count};
 ghost use Rattle.border_climb.specs.Stands.{Stands};
 ghost use Rattle.edge_order.specs.Order.{order_of, number_at_rank};
 ghost use Rattle.tile_plan.specs.Plan.{edges_at, place_of, root, vertices};
+ghost use Rattle.partition_tree.specs.Numbering.{AreDrawn};
 ghost use Rattle.partition_tree.specs.Planned.{weight_at};
 
-use crate::drawn::drawn;
+use crate::drawn::{TreeLists, drawn, drawn_in_threads};
 use crate::edges::Edges;
 use crate::tree::Tree;
 use border_climb::Part;
 use edge_order::Order;
 use hg_base::OutOfMemory;
 use std::alloc::{AllocError, Global};
+use std::thread::Threads;
 use tile_plan::Plan;
 
 impl Tree {
@@ -38,6 +40,28 @@ impl Tree {
         ensures graph_fronts { (g : WeightedGraph) → order.now ≡ order_of g → IfOk result (λ tree. IsFrontTree tree g.n (ranked g)) }
     {
         numbered(alloc, order, plan, part).map_err(|_| OutOfMemory)
+    }
+
+    /// The same tree as that of `of_part`, whose parents are found in as many threads as can be had. The error is want
+    /// of memory.
+    pub fn of_part_in_threads(
+        rt: &(impl Threads + Sync),
+        alloc: Global,
+        order: &Order,
+        plan: &Plan,
+        part: &Part,
+    ) -> Result<Tree, OutOfMemory>
+        requires vertices { order.now.n ≡ vertices plan.now }
+        requires edges { order.now.edges ≡ plan.now.edges }
+        requires first { part.now.region.first ≡ 0 }
+        requires places { count part.now.region ≡ vertices plan.now }
+        requires stands { Stands part.now (edges_at plan.now (root plan.now)) }
+        ensures tree { IfOk result (λ tree. tree ≡ tree_of (vertices plan.now) plan.now.edges) }
+        ensures fronts { IfOk result (λ tree. IsFrontTree tree (vertices plan.now) plan.now.edges) }
+        ensures graph { (g : WeightedGraph) → order.now ≡ order_of g → IfOk result (λ tree. tree ≡ graph_tree g) }
+        ensures graph_fronts { (g : WeightedGraph) → order.now ≡ order_of g → IfOk result (λ tree. IsFrontTree tree g.n (ranked g)) }
+    {
+        numbered_in_threads(rt, alloc, order, plan, part).map_err(|_| OutOfMemory)
     }
 }
 
@@ -86,8 +110,49 @@ fn numbered(alloc: Global, order: &Order, plan: &Plan, part: &Part) -> Result<Tr
     ensures tree { IfOk result (λ tree. tree ≡ tree_of (vertices plan.now) plan.now.edges) }
     ensures fronts { IfOk result (λ tree. IsFrontTree tree (vertices plan.now) plan.now.edges) }
 {
-    let n = plan.n();
+    // That the plan keeps to what every plan does.
+    let _ = plan.n();
     let edges = Planned { order, plan };
     let lists = drawn(alloc, &edges, part, order.len() as usize)?;
-    Ok(Tree::new(n, lists.parents, lists.altitudes, lists.makers))
+    Ok(tree_of_lists(order, plan, part, lists))
+}
+
+// The same tree, with the parents found in as many threads as can be had.
+fn numbered_in_threads(
+    rt: &(impl Threads + Sync),
+    alloc: Global,
+    order: &Order,
+    plan: &Plan,
+    part: &Part,
+) -> Result<Tree, AllocError>
+    requires vertices { order.now.n ≡ vertices plan.now }
+    requires edges { order.now.edges ≡ plan.now.edges }
+    requires first { part.now.region.first ≡ 0 }
+    requires places { count part.now.region ≡ vertices plan.now }
+    requires stands { Stands part.now (edges_at plan.now (root plan.now)) }
+    ensures tree { IfOk result (λ tree. tree ≡ tree_of (vertices plan.now) plan.now.edges) }
+    ensures fronts { IfOk result (λ tree. IsFrontTree tree (vertices plan.now) plan.now.edges) }
+{
+    // That the plan keeps to what every plan does.
+    let _ = plan.n();
+    let edges = Planned { order, plan };
+    let lists = drawn_in_threads(rt, alloc, &edges, part, order.len() as usize)?;
+    Ok(tree_of_lists(order, plan, part, lists))
+}
+
+// The tree of the lists that were drawn of such a part.
+fn tree_of_lists(order: &Order, plan: &Plan, part: &Part, lists: TreeLists) -> Tree
+    requires vertices { order.now.n ≡ vertices plan.now }
+    requires edges { order.now.edges ≡ plan.now.edges }
+    requires first { part.now.region.first ≡ 0 }
+    requires places { count part.now.region ≡ vertices plan.now }
+    requires stands { Stands part.now (edges_at plan.now (root plan.now)) }
+    requires drawn { (ranks : ℕ) × ((ranks ≡ length order.now.edges) × AreDrawn part.now (vertices plan.now) ranks (place_of plan.now) (weight_at order.now) (number_at_rank order.now) lists.parents.items lists.altitudes.items lists.makers.items) }
+    ensures tree { result ≡ tree_of (vertices plan.now) plan.now.edges }
+    ensures fronts { IsFrontTree result (vertices plan.now) plan.now.edges }
+{
+    let n = plan.n();
+    // That the graph keeps to its limits.
+    let _ = order.len();
+    Tree::new(n, lists.parents, lists.altitudes, lists.makers)
 }

@@ -320,6 +320,26 @@ fn graph_of(
     Ok(Graph::new(n, edges))
 }
 
+// The trees that are made over a plan of blocks, in one thread and in many.
+fn planned_trees(
+    rt: &(impl Abort + Threads + Sync),
+    alloc: Global,
+    graph: &Graph,
+    tile: u32,
+) -> Result<(Tree, Tree), Fail> {
+    let order = Order::of(rt, alloc, graph)?;
+    assert!(rt; 1 <= tile);
+    let plan = Plan::blocks(alloc, graph, &order, tile).expect(rt, "ample memory");
+    let part = whole_part(rt, alloc, &plan)?;
+    let places = part.count();
+    let vertices = plan.n();
+    assert!(rt; part.first() == 0);
+    assert!(rt; places == vertices);
+    let tree = Tree::of_part(alloc, &order, &plan, &part)?;
+    let threaded = Tree::of_part_in_threads(rt, alloc, &order, &plan, &part)?;
+    Ok((tree, threaded))
+}
+
 // The report of the tree that is made over a plan of blocks.
 fn assert_planned(
     rt: &(impl Abort + Threads + Sync),
@@ -330,16 +350,10 @@ fn assert_planned(
     report: &str,
 ) -> Result<(), Fail> {
     let graph = graph_of(rt, alloc, n, rows)?;
-    let order = Order::of(rt, alloc, &graph)?;
-    assert!(rt; 1 <= tile);
-    let plan = Plan::blocks(alloc, &graph, &order, tile).expect(rt, "ample memory");
-    let part = whole_part(rt, alloc, &plan)?;
-    let places = part.count();
-    let vertices = plan.n();
-    assert!(rt; part.first() == 0);
-    assert!(rt; places == vertices);
-    let tree = Tree::of_part(alloc, &order, &plan, &part)?;
+    let (tree, threaded) = planned_trees(rt, alloc, &graph, tile)?;
     let text = write_tree(alloc, &tree)?;
+    assert_eq!(rt; text.as_slice(), report.as_bytes());
+    let text = write_tree(alloc, &threaded)?;
     assert_eq!(rt; text.as_slice(), report.as_bytes());
     Ok(())
 }
@@ -371,5 +385,32 @@ fn over_plans(rt: HostRuntime) -> Result<(), Fail> {
         64,
         "tree 4 3\n0 3 0\n1 3 0\n2 2 0\n3 3 4\n",
     )?;
+    Ok(())
+}
+
+// Rows of vertices in three pieces, with edges to the next one and across.
+fn long_rows(alloc: Global) -> Result<Vec<(u32, u32, u32)>, AllocError> {
+    let mut rows = Vec::new(alloc);
+    for v in 0..3000_u32 {
+        if v % 1000 < 999 {
+            rows.push((v, v + 1, v * 7919 % 1009))?;
+        }
+        if v % 1000 < 500 {
+            rows.push((v, v + 499, v * 6101 % 997))?;
+        }
+    }
+    Ok(rows)
+}
+
+#[test]
+fn one_tree_in_many_threads(rt: HostRuntime) -> Result<(), Fail> {
+    let rows = long_rows(rt.alloc())?;
+    let graph = graph_of(&rt, rt.alloc(), 3000, &rows)?;
+    let (tree, threaded) = planned_trees(&rt, rt.alloc(), &graph, 1600)?;
+    // Three components of 1,000 vertices have 999 inner nodes each.
+    assert_eq!(rt; (threaded.nodes(), threaded.roots()), (5997, 3));
+    let text = write_tree(rt.alloc(), &tree)?;
+    let threaded_text = write_tree(rt.alloc(), &threaded)?;
+    assert_eq!(rt; threaded_text.as_slice(), text.as_slice());
     Ok(())
 }

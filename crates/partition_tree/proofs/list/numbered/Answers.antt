@@ -9,7 +9,7 @@ use Rattle.partition_tree.proofs.ListTree.{given-cells, drawn-list, made-forest}
 use Rattle.partition_tree.proofs.list.numbered.Goals as goal
 
 pub drawn-requires-clause-cells : goal.drawn-requires-clause-cells
-drawn-requires-clause-cells c = given-cells c.args.part.now c.args.list.now (record { first = c.requires.first; list_of = c.requires.list; stands = c.requires.stands })
+drawn-requires-clause-cells c κs = given-cells c.args.part.now c.args.list.now (record { first = c.requires.first; list_of = c.requires.list; stands = c.requires.stands })
 
 pub new-requires : goal.new-requires
 new-requires c =

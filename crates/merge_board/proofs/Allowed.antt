@@ -17,6 +17,7 @@ use Rattle.merge_board.proofs.Changes.{IsChange, shown, apart_from}
 use Rattle.merge_board.proofs.Calm.{IsCalm, calm_as, calm_views, more_draws}
 use Rattle.merge_board.proofs.Draws.{tile_drawn}
 use Rattle.merge_board.proofs.Sums.{total_set, missed_all, missed_none, changed_words, changed_list, within_list}
+use Rattle.merge_board.proofs.Seen.{most_seen_has, most_seen_within, most_seen_set}
 use Rattle.std.proofs.lemmas.List.{length-set}
 
 -- the state of a board
@@ -25,7 +26,8 @@ BoardState = State (Option PartState) View
 
 -- the numbers of a board don't reach the end of their type
 pub draws_small : (p : TilePlan) (workers : ℕ) (s : BoardState) → IsBoard p workers s → slice_index s.words 0 ≤ 65536 + 64
-draws_small p workers s b = let a = b.draws in let c = missed_all s.views in let d = b.shares in let e = b.few_workers in let f = b.plan.tiles in omega arith
+draws_small p workers s b = let a = b.draws in let c = missed_all s.views in let d = b.shares in let e = b.few_workers in let f = b.plan.tiles in
+    let g = most_seen_within s.views (tile_count p) (λ k v h. (b.order.seen k v h).1) in omega arith
 
 -- a draw
 module _ (p : TilePlan) (workers id slots : ℕ) (me : Me (Option PartState) View) (hand : me.0.hand ≡ None) (fresh : me.0.missed ≡ false) (share : 1 ≤ me.0.share) (known : me.0.plan ≡ p) (none_held : me.1 ≡ []) where
@@ -74,7 +76,7 @@ module _ (p : TilePlan) (workers id slots : ℕ) (me : Me (Option PartState) Vie
             order = tile_drawn p workers (slice_index s.words) (slice_index (slice_set s.words 0 ((d + 1) % 2 ^ 64))) (get_elem? s.homes) (get_elem? (slice_set s.homes d none)) (get_elem? s.views) (get_elem? (slice_set s.views id (drawn me.0 d)))
                 b.plan b.order id me.0 shows hand fresh share more words (changed_list s.homes d none (let l = b.slots in omega arith)) (changed_list s.views id (drawn me.0 d) there);
             shares = (let t = total_set (λ v. v.share) s.views id me.0 (drawn me.0 d) shows in let l = b.shares in omega arith);
-            draws = (let l = words.here in omega arith);
+            draws = (let l = words.here in let m = most_seen_has (slice_set s.views id (drawn me.0 d)) id (drawn me.0 d) (changed_list s.views id (drawn me.0 d) there).here in omega arith);
           }
       by (inr all) = (
         missing me.0 d,
@@ -98,7 +100,7 @@ module _ (p : TilePlan) (workers id slots : ℕ) (me : Me (Option PartState) Vie
           was = calm_as p workers (slice_index (slice_set s.words 0 ((d + 1) % 2 ^ 64))) (get_elem? s.homes) (get_elem? s.views) order_before id me.0 shows hand
 
           calm : IsCalm p workers (slice_index (slice_set s.words 0 ((d + 1) % 2 ^ 64))) (missing me.0 d)
-          calm = record { hand = hand; missed = λ e. (let l = words.here in omega arith); plan = was.plan; seen = was.seen }
+          calm = record { hand = hand; missed = λ e. (let l = words.here in omega arith); plan = was.plan; seen = was.seen; over = λ e. absurd (let a : me.0.share ≡ 0 = e in omega arith) }
 
           miss : IsBoard p workers (stepped s 0 ((d + 1) % 2 ^ 64) id me.1 (missing me.0 d) keeps)
           miss = record {
@@ -114,5 +116,6 @@ module _ (p : TilePlan) (workers id slots : ℕ) (me : Me (Option PartState) Vie
                 ])
                 (λ k i u h e. view.others k (apart_from (get_elem? s.views) id k i u me.0 shows hand h e) ∙ h);
             shares = (let t = total_set (λ v. v.share) s.views id me.0 (missing me.0 d) shows in let l = b.shares in omega arith);
-            draws = (let l = words.here in let t = total_set missed_share s.views id me.0 (missing me.0 d) shows in let f = missed_none me.0 fresh in let g : missed_share (missing me.0 d) ≡ me.0.share = refl in let o = b.draws in omega arith);
+            draws = (let l = words.here in let t = total_set missed_share s.views id me.0 (missing me.0 d) shows in let f = missed_none me.0 fresh in let g : missed_share (missing me.0 d) ≡ me.0.share = refl in
+                let m = most_seen_set s.views id me.0 (missing me.0 d) shows (omega arith) in let o = b.draws in omega arith);
           }

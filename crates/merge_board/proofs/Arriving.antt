@@ -23,6 +23,7 @@ use Rattle.merge_board.proofs.Calm.{spent_slot}
 use Rattle.merge_board.proofs.First.{first_arrives}
 use Rattle.merge_board.proofs.Second as second
 use Rattle.merge_board.proofs.Sums.{total_set, changed_words, changed_list, within_list}
+use Rattle.merge_board.proofs.Seen.{most_seen_set}
 
 abbrev pub Board : Type 0
 Board = State (Option PartState) View
@@ -61,9 +62,9 @@ module _ (p : TilePlan) (workers id i : ℕ) (v : View) (y : PartState) (s : Boa
   abbrev pub after : Homes → View → Board
   after hs' u = record { words = slice_set s.words (door p i) ((n + weight p i) % 2 ^ 64); homes = hs'; views = slice_set s.views id u }
 
-  kept : (hs' : Homes) (u : View) → length hs' ≡ part_count p → u.share ≡ v.share → missed_share u ≡ missed_share v
+  kept : (hs' : Homes) (u : View) → length hs' ≡ part_count p → u.share ≡ v.share → missed_share u ≡ missed_share v → u.seen ≡ v.seen
       → IsInOrder p workers (slice_index (slice_set s.words (door p i) ((n + weight p i) % 2 ^ 64))) (get_elem? hs') (get_elem? (slice_set s.views id u)) → IsBoard p workers (after hs' u)
-  kept hs' u l share missed o = record {
+  kept hs' u l share missed seen o = record {
     plan = board.plan;
     some_worker = board.some_worker;
     few_workers = board.few_workers;
@@ -71,11 +72,11 @@ module _ (p : TilePlan) (workers id i : ℕ) (v : View) (y : PartState) (s : Boa
     slots = l;
     order = o;
     shares = (let t = total_set (λ x. x.share) s.views id v u shows in let q = board.shares in omega arith);
-    draws = (let t = total_set missed_share s.views id v u shows in let q = board.draws in let d = same_draws in omega arith);
+    draws = (let t = total_set missed_share s.views id v u shows in let m = most_seen_set s.views id v u shows (omega arith) in let q = board.draws in let d = same_draws in omega arith);
   }
 
   pub first_kept : n ≡ 0 → IsBoard p workers (after (slice_set hs i (some (Some y))) (idle v n))
-  first_kept z = kept (slice_set hs i (some (Some y))) (idle v n) (length-set hs i (some (Some y)) ∙ long) refl refl
+  first_kept z = kept (slice_set hs i (some (Some y))) (idle v n) (length-set hs i (some (Some y)) ∙ long) refl refl refl
       (first_arrives p workers (slice_index s.words) (slice_index (slice_set s.words (door p i) ((n + weight p i) % 2 ^ 64))) (get_elem? hs) (get_elem? (slice_set hs i (some (Some y)))) (get_elem? s.views) (get_elem? (slice_set s.views id (idle v n)))
       board.plan order id i n v y shows hand z (record { here = words.here ∙ (omega arith); others = words.others }) (changed_list hs i (some (Some y)) (let l = long in let a = part in omega arith)) (changed_list s.views id (idle v n) there) fits)
 
@@ -98,7 +99,7 @@ module _ (p : TilePlan) (workers id i : ℕ) (v : View) (y : PartState) (s : Boa
 
   pub second_kept : n ≢ 0 → IsBoard p workers (after (slice_set (slice_set hs (sibling p i) none) (mother p i) none) (with_merge v (mother p i) n))
   second_kept some_ = kept (slice_set (slice_set hs (sibling p i) none) (mother p i) none) (with_merge v (mother p i) n)
-      (length-set (slice_set hs (sibling p i) none) (mother p i) none ∙ long') refl refl
+      (length-set (slice_set hs (sibling p i) none) (mother p i) none ∙ long') refl refl refl
       (second.second_arrives p workers (slice_index s.words) (slice_index (slice_set s.words (door p i) ((n + weight p i) % 2 ^ 64))) (get_elem? hs) (get_elem? (slice_set hs (sibling p i) none)) (get_elem? (slice_set (slice_set hs (sibling p i) none) (mother p i) none))
       (get_elem? s.views) (get_elem? (slice_set s.views id (with_merge v (mother p i) n))) board.plan order id i n v shows hand (inner some_) some_
       (record { here = words.here ∙ three; others = words.others })

@@ -16,10 +16,11 @@ pub record IsCalm (p : TilePlan) (workers : ℕ) (w : Words) (v : View) : Type 0
   pub missed : v.missed ≡ true → tile_count p ≤ w 0
   pub plan : 1 ≤ v.share → (v.plan ≡ p) × (v.workers ≡ workers)
   pub seen : (v.seen ≤ w 0) × (v.seen ≤ tile_count p)
+  pub over : v.share ≡ 0 → v.seen ≡ 0
 
 -- a seat's own view is calm where it has no part
 pub calm_as : (p : TilePlan) (workers : ℕ) (w : Words) (slots : Slots) (views : Views) → IsInOrder p workers w slots views → (k : ℕ) (v : View) → Shows views k v → v.hand ≡ None → IsCalm p workers w v
-calm_as p workers w slots views order k v s h = record { hand = h; missed = λ m. (order.missed k v s m).1; plan = λ q. order.plan k v s q; seen = order.seen k v s }
+calm_as p workers w slots views order k v s h = record { hand = h; missed = λ m. (order.missed k v s m).1; plan = λ q. order.plan k v s q; seen = order.seen k v s; over = λ e. (order.left_over k v s e).1 }
 
 -- each view is an old one or a calm one, and each part is in the hand that it was in
 pub calm_views : (p : TilePlan) (workers : ℕ) (w : Words) (slots : Slots) (views views' : Views) → IsInOrder p workers w slots views
@@ -42,7 +43,7 @@ calm_views p workers w slots views views' order old kept = record {
   ];
   left_over = λ k u s h. elim (old k u s) [
     | inl t ↦ order.left_over k u t h
-    | inr c ↦ c.hand
+    | inr c ↦ (c.hand, c.over h)
   ];
   plan = λ k u s h. elim (old k u s) [
     | inl t ↦ order.plan k u t h
@@ -106,10 +107,10 @@ more_draws p workers w w' slots views plan order all words = record {
     arrived_on j h (inl home) = inl (same_at j h ∙ home)
     arrived_on j h (inr spent) = inr (same_at j h ∙ spent)
 
--- the slot of a spent part may have anything
-pub spent_slot : (p : TilePlan) (workers : ℕ) (w : Words) (slots slots' : Slots) (views : Views) → IsPlan p → IsInOrder p workers w slots views
-    → (i : ℕ) (x : maybe.Option (maybe.Option (Option PartState))) → IsPart p i → IsSpent p w i → IsChange slots slots' i x → IsInOrder p workers w slots' views
-spent_slot p workers w slots slots' views plan order i x h spent slot = record {
+-- the slot of a part that is formed and not at home may have anything
+pub free_slot : (p : TilePlan) (workers : ℕ) (w : Words) (slots slots' : Slots) (views : Views) → IsInOrder p workers w slots views
+    → (i : ℕ) (x : maybe.Option (maybe.Option (Option PartState))) → IsFormed p w i → (IsAtHome p w i → ⊥) → IsChange slots slots' i x → IsInOrder p workers w slots' views
+free_slot p workers w slots slots' views order i x formed away slot = record {
   range = order.range;
   root_range = order.root_range;
   formed = order.formed;
@@ -122,25 +123,28 @@ spent_slot p workers w slots slots' views plan order i x h spent slot = record {
   seen = order.seen;
   tiles = λ t low high. (let was = order.tiles t low high in (was.0, (slot.others t (λ e. unborn_tile t low high e) ∙ was.1.0, was.1.1)));
   merges = λ m low at ne. slot.others m (λ e. unborn_merge m low ne e) ∙ order.merges m low at ne;
-  homes = λ j at home. (let was = order.homes j at home in (was.0, (slot.others j (λ e. away j at home e) ∙ was.1.0, was.1.1)));
+  homes = λ j at home. (let was = order.homes j at home in (was.0, (slot.others j (λ e. away (subst (λ (k : ℕ). IsAtHome p w k) e home)) ∙ was.1.0, was.1.1)));
 }
   where
-    is_formed : IsFormed p w i
-    is_formed = order.formed i h (inr spent)
-
     unborn_tile : (t : ℕ) → t < tile_count p → w 0 ≤ t → t ≡ i → ⊥
-    unborn_tile t low high e = by is_formed
+    unborn_tile t low high e = by formed
       where
         by : IsFormed p w i → ⊥
         by (inl f) = let a = f.1 in omega arith
         by (inr f) = let a = f.0 in omega arith
 
     unborn_merge : (m : ℕ) → tile_count p ≤ m → w (word_of p m) ≢ 3 → m ≡ i → ⊥
-    unborn_merge m low ne e = by is_formed
+    unborn_merge m low ne e = by formed
       where
         by : IsFormed p w i → ⊥
         by (inl f) = let a = f.0 in omega arith
         by (inr f) = ne (ap (λ (x : ℕ). w (word_of p x)) e ∙ f.1)
 
-    away : (j : ℕ) → IsPart p j → IsAtHome p w j → j ≡ i → ⊥
-    away j at home e = let a : w (door p i) ≡ 3 = spent in let b : w (door p i) ≡ weight p i = subst (λ (x : ℕ). w (door p x) ≡ weight p x) e home in let c = weight_two p plan i h in omega arith
+-- what is spent isn't at home
+pub spent_away : (p : TilePlan) (w : Words) (i : ℕ) → IsPlan p → IsPart p i → IsSpent p w i → IsAtHome p w i → ⊥
+spent_away p w i plan h spent home = let a : w (door p i) ≡ 3 = spent in let b : w (door p i) ≡ weight p i = home in let c = weight_two p plan i h in omega arith
+
+-- the slot of a spent part may have anything
+pub spent_slot : (p : TilePlan) (workers : ℕ) (w : Words) (slots slots' : Slots) (views : Views) → IsPlan p → IsInOrder p workers w slots views
+    → (i : ℕ) (x : maybe.Option (maybe.Option (Option PartState))) → IsPart p i → IsSpent p w i → IsChange slots slots' i x → IsInOrder p workers w slots' views
+spent_slot p workers w slots slots' views plan order i x h spent slot = free_slot p workers w slots slots' views order i x (order.formed i h (inr spent)) (spent_away p w i plan h spent) slot

@@ -20,7 +20,7 @@ module _ (p : TilePlan) (workers : ℕ) (s : State (Option PartState) View) (boa
   none_held : (k i : ℕ) (u : View) → Shows (get_elem? s.views) k u → u.hand ≡ Some i → ⊥
   none_held k i u h e = elim (cases_eq k id) [
     | inl same ↦ no_hand u i (ap (λ (x : View). x.hand) (one_view (get_elem? s.views) id u v (subst (λ (a : ℕ). Shows (get_elem? s.views) a u) same h) shows) ∙ (board.order.missed id v shows missed).0) e
-    | inr ne ↦ no_hand u i (board.order.left_over k u h (let t = total_two (λ x. x.share) s.views k id u v ne h shows in let q = board.shares in omega arith)) e
+    | inr ne ↦ no_hand u i (board.order.left_over k u h (let t = total_two (λ x. x.share) s.views k id u v ne h shows in let q = board.shares in omega arith)).0 e
   ]
 
   -- so each part that is formed has arrived

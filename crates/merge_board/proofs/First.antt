@@ -160,7 +160,7 @@ module _ (p : TilePlan) (workers : ℕ) (w w' : Words) (slots slots' : Slots) (v
       | inr t ↦ (let m = order.missed k u t.1 h in (m.0, (let d = draws in let b = m.1 in omega arith)))
     ];
     left_over = λ k u s h. elim (before k u s) [
-      | inl t ↦ idle_hand u t.1
+      | inl t ↦ absurd (no_hand v i (order.left_over id v shows (ap (λ (x : View). x.share) t.1 ∙ h)).0 hand)
       | inr t ↦ order.left_over k u t.1 h
     ];
     plan = λ k u s h. elim (before k u s) [

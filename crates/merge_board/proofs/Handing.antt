@@ -1,5 +1,5 @@
 -- How a part is put down, and how the two halves are taken up, over the slots that a seat holds.
-use Rattle.std.proofs.Common.{◌≡◌, ◌≢◌, ℕ, ◌+◌, ◌^◌, ◌%◌, ◌<◌, ◌≤◌, refl, sym, ◌∙◌, subst, ap, arith, List, [], ◌∷◌, ◌++◌, inl, inr}
+use Rattle.std.proofs.Common.{◌≡◌, ◌≢◌, ℕ, ◌+◌, ◌^◌, ◌%◌, ◌<◌, ◌≤◌, refl, sym, ◌∙◌, subst, ap, arith, List, [], ◌∷◌, ◌++◌, inl, inr, true}
 use Rattle.std.proofs.lemmas.Bool.{cases_eq}
 use Rattle.std.proofs.lemmas.Option.{same_Some}
 use Rattle.std.specs.Prelude.{Option, Some, None}
@@ -18,6 +18,7 @@ use Rattle.merge_board.specs.declared.view.View.{View}
 use Rattle.merge_board.specs.declared.seat.Seat.TheInside.{Inside}
 use Rattle.merge_board.proofs.Doors.{some_plan, door_inner, door_root, mother_inner, mother_merge, sibling_part, sibling_weight, weight_some, weight_two}
 use Rattle.merge_board.proofs.Arriving.{may_arrive}
+use Rattle.merge_board.proofs.Changes.{no_hand}
 use Rattle.merge_board.proofs.Held.{arrives_alone}
 use Rattle.merge_board.proofs.Places.{left_weight, right_weight, left_sibling, right_sibling}
 
@@ -91,6 +92,7 @@ merge_seat s t i n m y after ok plan hand inner some_ a above slots = record {
   number = ok.number ∙ sym (ap (λ (v : View). v.number) view);
   hand = ap (λ (k : ℕ). Some k) above ∙ sym (ap (λ (v : View). v.hand) view);
   missed = ok.missed ∙ sym (ap (λ (v : View). v.missed) view);
+  idle = subst (λ (v : View). v.missed ≡ true → v.hand ≡ None) (sym view) (λ m. absurd (no_hand s.token.me.0 i (ok.idle m) hand));
   share = subst (λ (v : View). 1 ≤ v.share) (sym view) ok.share;
   workers = subst (λ (v : View). v.workers ≤ 64) (sym view) ok.workers;
   part = subst (λ (v : View). (j : ℕ) → v.hand ≡ Some j → j < part_count v.plan) (sym view) (λ j e. subst (λ (k : ℕ). k < part_count s.token.me.0.plan) (same_Some (mother s.token.me.0.plan i) j e) (mother_inner s.token.me.0.plan plan i is_part inner));

@@ -1,5 +1,5 @@
 -- What the table asks where a seat is split or two are joined, at the start and at the end.
-use Rattle.std.proofs.Common.{◌≡◌, ℕ, ◌≤◌, ◌⊎◌, inl, inr, refl, sym, ◌∙◌, subst, arith, true, false, List, [], ◌∷◌, ◌++◌}
+use Rattle.std.proofs.Common.{◌≡◌, ℕ, ◌+◌, ◌≤◌, ◌⊎◌, inl, inr, refl, sym, ◌∙◌, subst, arith, true, false, List, [], ◌∷◌, ◌++◌}
 use Rattle.std.specs.Prelude.{Some, None, slice_set, slice_index}
 use mathlib.Core.Option.{some}
 use lib.ListN.{get_elem?}
@@ -12,6 +12,7 @@ use Rattle.merge_board.specs.declared.view.View.{View}
 use Rattle.merge_board.proofs.Changes.{IsChange, shown, apart_from}
 use Rattle.merge_board.proofs.Calm.{IsCalm, calm_as, calm_views}
 use Rattle.merge_board.proofs.Sums.{total_set, total_snoc, missed_none, missed_whole, changed_list, within_list}
+use Rattle.merge_board.proofs.Seen.{most_seen_set, most_seen_snoc, most_seen_less}
 
 -- a seat that is idle, has not missed and stands for two workers at least is split
 pub may_split : (p : TilePlan) (workers id : ℕ) (v : View) → v.hand ≡ None → v.missed ≡ false → 2 ≤ v.share → Splits (IsBoard p workers) id v (split_left v) (split_right v)
@@ -24,17 +25,18 @@ may_split p workers id v hand fresh share s b shows = record {
   order = calm_views p workers (slice_index s.words) (get_elem? s.homes) (get_elem? s.views) (get_elem? (slice_set s.views id (split_left v) ++ split_right v ∷ [])) b.order old kept;
   shares = (let t = total_set (λ x. x.share) s.views id v (split_left v) shows in let q = total_snoc (λ x. x.share) (slice_set s.views id (split_left v)) (split_right v) in let r = b.shares in omega arith);
   draws = (let t = total_set missed_share s.views id v (split_left v) shows in let q = total_snoc missed_share (slice_set s.views id (split_left v)) (split_right v) in
-      let a = missed_none v fresh in let c = missed_none (split_left v) fresh in let r = b.draws in omega arith);
+      let a = missed_none v fresh in let c = missed_none (split_left v) fresh in
+      let m = most_seen_set s.views id v (split_left v) shows (omega arith) in let n = most_seen_snoc (slice_set s.views id (split_left v)) (split_right v) in let r = b.draws in omega arith);
 }
   where
     calm : IsCalm p workers (slice_index s.words) v
     calm = calm_as p workers (slice_index s.words) (get_elem? s.homes) (get_elem? s.views) b.order id v shows hand
 
     left_calm : IsCalm p workers (slice_index s.words) (split_left v)
-    left_calm = record { hand = hand; missed = calm.missed; plan = λ q. calm.plan (omega arith); seen = calm.seen }
+    left_calm = record { hand = hand; missed = calm.missed; plan = λ q. calm.plan (omega arith); seen = calm.seen; over = λ e. absurd (omega arith) }
 
     right_calm : IsCalm p workers (slice_index s.words) (split_right v)
-    right_calm = record { hand = hand; missed = calm.missed; plan = λ q. calm.plan (omega arith); seen = (omega arith, omega arith) }
+    right_calm = record { hand = hand; missed = calm.missed; plan = λ q. calm.plan (omega arith); seen = (omega arith, omega arith); over = λ e. refl }
 
     view : IsChange (get_elem? s.views) (get_elem? (slice_set s.views id (split_left v))) id (some (split_left v))
     view = changed_list s.views id (split_left v) (within_list s.views id v shows)
@@ -63,7 +65,8 @@ may_join p workers id other v u hand missed hand' missed' share s b shows ne sho
   order = calm_views p workers (slice_index s.words) (get_elem? s.homes) (get_elem? s.views) (get_elem? (slice_set (slice_set s.views id (joined v u)) other left_over)) b.order old kept;
   shares = (let t = total_set (λ x. x.share) s.views id v (joined v u) shows in let q = total_set (λ x. x.share) (slice_set s.views id (joined v u)) other u left_over shows' in let r = b.shares in omega arith);
   draws = (let t = total_set missed_share s.views id v (joined v u) shows in let q = total_set missed_share (slice_set s.views id (joined v u)) other u left_over shows' in
-      let a = missed_whole v missed in let c = missed_whole u missed' in let d = missed_whole (joined v u) missed in let e = missed_none left_over refl in let r = b.draws in omega arith);
+      let a = missed_whole v missed in let c = missed_whole u missed' in let d = missed_whole (joined v u) missed in let e = missed_none left_over refl in
+      let m = most_seen_set s.views id v (joined v u) shows (omega arith) in let n = most_seen_less (slice_set s.views id (joined v u)) other id u left_over (joined v u) (λ same. ne (sym same)) shows' view.here (omega arith) in let r = b.draws in omega arith);
 }
   where
     views' : List View
@@ -79,10 +82,10 @@ may_join p workers id other v u hand missed hand' missed' share s b shows ne sho
     calm' = calm_as p workers (slice_index s.words) (get_elem? s.homes) (get_elem? s.views) b.order other u other_shows hand'
 
     joined_calm : IsCalm p workers (slice_index s.words) (joined v u)
-    joined_calm = record { hand = hand; missed = calm.missed; plan = λ q. calm.plan share; seen = (let a = calm.seen in let c = calm'.seen in (omega arith, omega arith)) }
+    joined_calm = record { hand = hand; missed = calm.missed; plan = λ q. calm.plan share; seen = (let a = calm.seen in let c = calm'.seen in (omega arith, omega arith)); over = λ e. absurd (let a : v.share + u.share ≡ 0 = e in omega arith) }
 
     over_calm : IsCalm p workers (slice_index s.words) left_over
-    over_calm = record { hand = refl; missed = λ e. calm.missed missed; plan = λ q. absurd (omega arith); seen = (omega arith, omega arith) }
+    over_calm = record { hand = refl; missed = λ e. calm.missed missed; plan = λ q. absurd (omega arith); seen = (omega arith, omega arith); over = λ e. refl }
 
     view : IsChange (get_elem? s.views) (get_elem? (slice_set s.views id (joined v u))) id (some (joined v u))
     view = changed_list s.views id (joined v u) (within_list s.views id v shows)

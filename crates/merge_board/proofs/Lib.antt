@@ -5,6 +5,9 @@ pub mod Second
 pub mod Draws
 pub mod Calm
 pub mod Sums
+pub mod Seen
+pub mod Undrawn
+pub mod Turns
 pub mod Allowed
 pub mod Arriving
 pub mod Joining

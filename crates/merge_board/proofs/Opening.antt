@@ -66,7 +66,7 @@ module _ (p : TilePlan) (workers : ℕ) (slots : List (Option PartState)) (plan 
     held = λ i h a. absurd (none_formed i a.0);
     once = λ k l i u v h g a b. absurd (empty k i u h a);
     missed = λ k v h e. absurd (true≢false (sym e ∙ ap (λ (x : View). x.missed) (is_first k v h)));
-    left_over = λ k v h e. ap (λ (x : View). x.hand) (is_first k v h);
+    left_over = λ k v h e. (ap (λ (x : View). x.hand) (is_first k v h), ap (λ (x : View). x.seen) (is_first k v h));
     plan = λ k v h e. (ap (λ (x : View). x.plan) (is_first k v h), ap (λ (x : View). x.workers) (is_first k v h));
     seen = λ k v h. (let s : v.seen ≡ 0 = ap (λ (x : View). x.seen) (is_first k v h) in (omega arith, omega arith));
     tiles = λ t h z. (let at = opened.tiles t h in (at.0, (at_home slots t (Some at.0) at.1.0, at.1.1)));

@@ -1,4 +1,4 @@
--- Each part is in one of its states.
+-- Each part is in exactly one of its states.
 use Rattle.std.proofs.Common.{◌≡◌, ◌≢◌, ℕ, ◌<◌, ◌≤◌, ◌⊎◌, inl, inr, arith}
 use Rattle.std.proofs.lemmas.Bool.{cases_eq, cases_lt}
 use Rattle.std.specs.Prelude.{Option, Some, slice_index}
@@ -7,8 +7,9 @@ use mathlib.Core.Option.{some}
 use Rattle.atomic_table.specs.Table.{State}
 use Rattle.tile_plan.specs.Plan.{TilePlan, tile_count, weight}
 use Rattle.border_climb.specs.Stands.{PartState}
-use Rattle.merge_board.specs.Board.{IsBoard, IsPart, IsFormed, HasArrived, IsStatus, Unborn, InHand, AtHome, Spent, door, word_of}
+use Rattle.merge_board.specs.Board.{IsBoard, IsPart, IsFormed, IsUnborn, IsInHand, HasArrived, IsStatus, HasOneState, Unborn, InHand, AtHome, Spent, door, word_of}
 use Rattle.merge_board.specs.declared.view.View.{View}
+use Rattle.merge_board.proofs.Calm.{spent_away}
 
 pub part_status : (p : TilePlan) (workers i : ℕ) (s : State (Option PartState) View) → IsBoard p workers s → IsPart p i → IsStatus p s i
 part_status p workers i s b h = elim (cases_eq (slice_index s.words (door p i)) (weight p i)) [
@@ -53,3 +54,11 @@ part_status p workers i s b h = elim (cases_eq (slice_index s.words (door p i)) 
       where
         held : (k : ℕ) × ((v : View) × ((get_elem? s.views k ≡ some v) × (v.hand ≡ Some i)))
         held = b.order.held i h (f, far)
+
+-- no two of the states hold of a part
+pub one_state : (p : TilePlan) (workers i : ℕ) (s : State (Option PartState) View) → IsBoard p workers s → IsPart p i → HasOneState p (slice_index s.words) i
+one_state p workers i s b h = record { unborn = other; in_hand = λ a f. a.1 f; at_home = λ home spent. spent_away p (slice_index s.words) i b.plan h spent home }
+  where
+    other : IsUnborn p (slice_index s.words) i → IsInHand p (slice_index s.words) i ⊎ HasArrived p (slice_index s.words) i → ⊥
+    other un (inl a) = un a.0
+    other un (inr f) = un (b.order.formed i h f)

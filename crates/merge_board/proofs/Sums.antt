@@ -33,6 +33,11 @@ module _ (f : View → ℕ) where
   total_two (x ∷ xs) (suc k) zero u v ne e g = let same : f x ≡ f v = ap f (some-injective x v g) in let rest = total_has xs k u e in omega arith
   total_two (x ∷ xs) (suc k) (suc l) u v ne e g = let rest = total_two xs k l u v (λ s. ne (ap suc s)) e g in omega arith
 
+-- where no view has any, all have none
+pub total_none : (f : View → ℕ) (vs : List View) → ((k : ℕ) (v : View) → get_elem? vs k ≡ some v → f v ≡ 0) → total f vs ≡ 0
+total_none f [] each = refl
+total_none f (x ∷ xs) each = let here = each 0 x refl in let rest = total_none f xs (λ k v e. each (suc k) v e) in omega arith
+
 pub missed_within : (v : View) → missed_share v ≤ v.share
 missed_within v = by v.missed
   where

@@ -1,6 +1,6 @@
 -- The board: what its words say of the parts of a plan, and the rule that holds between any two steps.
 -- Word 0 counts the draws. Each merge has a word, and one more word, after those, belongs to the root's arrival.
-use Rattle.std.specs.Prelude.{◌≡◌, ◌≢◌, ℕ, ◌+◌, ◌-◌, ◌<◌, ◌≤◌, ◌⊎◌, List, [], ◌∷◌, length, slice_index, Option, Some, None, true, if◌then◌else◌}
+use Rattle.std.specs.Prelude.{◌≡◌, ◌≢◌, ℕ, ◌+◌, ◌-◌, ◌<◌, ◌≤◌, ◌⊎◌, List, [], ◌∷◌, length, max, slice_index, Option, Some, None, true, if◌then◌else◌}
 use mathlib.Core.Option.{some}
 use mathlib.Core.Option as maybe
 use lib.ListN.{get_elem?}
@@ -76,9 +76,9 @@ pub record IsInOrder (p : TilePlan) (workers : ℕ) (w : Words) (slots : Slots) 
   pub in_hand : (k i : ℕ) (v : View) → Shows views k v → v.hand ≡ Some i → IsPart p i × IsInHand p w i
   pub held : (i : ℕ) → IsPart p i → IsInHand p w i → (k : ℕ) × ((v : View) × (Shows views k v × (v.hand ≡ Some i)))
   pub once : (k l i : ℕ) (u v : View) → Shows views k u → Shows views l v → u.hand ≡ Some i → v.hand ≡ Some i → k ≡ l
-  -- who missed has no part, and all tiles are drawn; a view that is left over has no part
+  -- who missed has no part, and all tiles are drawn; a view that is left over has no part and has seen no draw
   pub missed : (k : ℕ) (v : View) → Shows views k v → v.missed ≡ true → (v.hand ≡ None) × (tile_count p ≤ w 0)
-  pub left_over : (k : ℕ) (v : View) → Shows views k v → v.share ≡ 0 → v.hand ≡ None
+  pub left_over : (k : ℕ) (v : View) → Shows views k v → v.share ≡ 0 → (v.hand ≡ None) × (v.seen ≡ 0)
   -- each seat knows the board's plan and number of workers, and of draws no more than there were
   pub plan : (k : ℕ) (v : View) → Shows views k v → 1 ≤ v.share → (v.plan ≡ p) × (v.workers ≡ workers)
   pub seen : (k : ℕ) (v : View) → Shows views k v → (v.seen ≤ w 0) × (v.seen ≤ tile_count p)
@@ -96,7 +96,13 @@ total f (v ∷ vs) = f v + total f vs
 abbrev pub missed_share : View → ℕ
 missed_share v = if v.missed then v.share else 0
 
--- The rule of the board of a plan with so many workers.
+-- the most draws that one view has seen
+abbrev pub most_seen : List View → ℕ
+most_seen [] = 0
+most_seen (v ∷ vs) = max v.seen (most_seen vs)
+
+-- The rule of the board of a plan with so many workers. No more draws were made than one view has seen and those that
+-- missed.
 pub record IsBoard (p : TilePlan) (workers : ℕ) (s : State (Option PartState) View) : Type 0 where
   pub plan : IsPlan p
   pub some_worker : 1 ≤ workers
@@ -105,7 +111,7 @@ pub record IsBoard (p : TilePlan) (workers : ℕ) (s : State (Option PartState) 
   pub slots : length s.homes ≡ part_count p
   pub order : IsInOrder p workers (slice_index s.words) (get_elem? s.homes) (get_elem? s.views)
   pub shares : total (λ v. v.share) s.views ≡ workers
-  pub draws : slice_index s.words 0 ≤ tile_count p + total missed_share s.views
+  pub draws : slice_index s.words 0 ≤ most_seen s.views + total missed_share s.views
 
 -- exactly one seat has the part in its hand
 pub record IsHeldOnce (s : State (Option PartState) View) (i : ℕ) : Type 0 where
@@ -121,3 +127,9 @@ pub data IsStatus (p : TilePlan) (s : State (Option PartState) View) (i : ℕ) :
   InHand : IsInHand p (slice_index s.words) i → IsHeldOnce s i → IsStatus p s i
   AtHome : IsAtHome p (slice_index s.words) i → (part : PartState) → Keeps (get_elem? s.homes) i part → Fits p i part → IsStatus p s i
   Spent : IsSpent p (slice_index s.words) i → IsStatus p s i
+
+-- The part has one state: no two of unborn, in hand, at home and spent hold of it.
+pub record HasOneState (p : TilePlan) (w : Words) (i : ℕ) : Type 0 where
+  pub unborn : IsUnborn p w i → IsInHand p w i ⊎ HasArrived p w i → ⊥
+  pub in_hand : IsInHand p w i → HasArrived p w i → ⊥
+  pub at_home : IsAtHome p w i → IsSpent p w i → ⊥

@@ -1,5 +1,5 @@
 -- The rule over a board's key, and what the fields of seats and boards hold.
-use Rattle.std.specs.Prelude.{◌≡◌, ℕ, ◌+◌, ◌≤◌, ◌<◌, Option, Some}
+use Rattle.std.specs.Prelude.{◌≡◌, ℕ, ◌+◌, ◌≤◌, ◌<◌, Option, Some, None, true}
 use Rattle.atomic_table.specs.Table.{State}
 use Rattle.border_climb.specs.Stands.{PartState}
 use Rattle.merge_board.specs.Board.{IsBoard}
@@ -20,11 +20,13 @@ first_of key = first_view key.plan.value key.workers
 abbrev pub seat_of : seat.Inside → SeatState
 seat_of s = record { table = s.token.table_id; view = s.token.me.0 }
 
--- the fields say what the view says, and the slots that are out with the seat are those of the part in its hand
+-- the fields say what the view says, a seat that has missed is idle, and the slots that are out with the seat are those
+-- of the part in its hand
 pub record IsSeat (s : seat.Inside) : Type 0 where
   pub number : s.number ≡ s.token.me.0.number
   pub hand : s.hand ≡ s.token.me.0.hand
   pub missed : s.missed ≡ s.token.me.0.missed
+  pub idle : s.token.me.0.missed ≡ true → s.token.me.0.hand ≡ None
   pub share : 1 ≤ s.token.me.0.share
   pub workers : s.token.me.0.workers ≤ 64
   pub part : (i : ℕ) → s.token.me.0.hand ≡ Some i → i < part_count s.token.me.0.plan

@@ -59,12 +59,13 @@ impl Board {
         shared.exchange(&mut seat.token, tile as usize, None)
     }
 
-    /// Arrives with the part in the seat's hand.
+    /// Arrives with the part in the seat's hand. A seat with a part has not missed, and has not afterwards.
     pub fn arrive(&self, plan: &Plan, seat: &mut Seat, part: Part) -> Arrival
         requires seat { IsSeatOf seat.old self.now }
         requires plan { plan.now ≡ self.now.plan }
         requires hand { (i : ℕ) × ((seat.old.view.hand ≡ Some i) × Fits self.now.plan i part) }
         ensures seat { IsSeatOf seat.new self.now }
+        ensures fresh { seat.new.view.missed ≡ false }
         ensures arrival { (i : ℕ) → seat.old.view.hand ≡ Some i → IsArrival self.now.plan i seat.old.view seat.new.view result }
     {
         let Some(number) = seat.hand else {

@@ -1,5 +1,6 @@
 ghost use Rattle.std.specs.Prelude.{◌≡◌, ◌+◌, ◌<◌, ◌≤◌, [], All, IfOk, replicate, reverse};
 ghost use Rattle.std.specs.List.{range_with_len};
+ghost use Rattle.merge_board.specs.Opening.{IsUndrawn};
 ghost use Rattle.merge_board.specs.Seats.{AreAllSeats, IsReady, IsSeatOf, first_view, fresh_seats, split_left, split_right};
 ghost use Rattle.merge_board.specs.Serving.{numbers};
 
@@ -28,6 +29,7 @@ impl Board {
         ensures ready { IfOk result (λ made. All IsReady made.1) }
         ensures numbers { IfOk result (λ made. numbers made.1 ≡ reverse (range_with_len 0 workers)) }
         ensures unseen { IfOk result (λ made. All (λ seat. seat.view.seen ≡ 0) made.1) }
+        ensures undrawn { IfOk result (λ made. IsUndrawn made.0 made.1) }
     {
         let seats = vacant_seats(alloc)?;
         let (board, first) = opened_board(alloc, plan, workers)?;

@@ -137,7 +137,6 @@ fn arrive_first(rt: &impl Abort, board: &Board, plan: &Plan, seat: &mut Seat, pa
     requires seat { IsSeatOf seat.old board.now }
     requires plan { plan.now ≡ board.now.plan }
     requires hand { (i : ℕ) × ((seat.old.view.hand ≡ Some i) × Fits board.now.plan i part) }
-    requires fresh { seat.old.view.missed ≡ false }
     ensures seat { IsSeatOf seat.new board.now }
     ensures ready { IsReady seat.new }
 {
@@ -158,7 +157,6 @@ fn arrive_second(
     requires seat { IsSeatOf seat.old board.now }
     requires plan { plan.now ≡ board.now.plan }
     requires hand { (i : ℕ) × ((seat.old.view.hand ≡ Some i) × Fits board.now.plan i part) }
-    requires fresh { seat.old.view.missed ≡ false }
     ensures seat { IsSeatOf seat.new board.now }
     ensures hand { seat.new.view.hand ≡ Some merge }
     ensures fresh { seat.new.view.missed ≡ false }
@@ -183,7 +181,6 @@ fn arrive_last(rt: &impl Abort, board: &Board, plan: &Plan, seat: &mut Seat, par
     requires seat { IsSeatOf seat.old board.now }
     requires plan { plan.now ≡ board.now.plan }
     requires hand { (i : ℕ) × ((seat.old.view.hand ≡ Some i) × Fits board.now.plan i part) }
-    requires fresh { seat.old.view.missed ≡ false }
     ensures seat { IsSeatOf seat.new board.now }
     ensures ready { IsReady seat.new }
 {

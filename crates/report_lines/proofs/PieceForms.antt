@@ -1,5 +1,5 @@
 -- Texts in pieces.
-use Rattle.std.proofs.Common.{◌≡◌, ℕ, suc, ◌+◌, ◌-◌, ◌*◌, ◌/◌, ◌≤◌, ◌<◌, List, ◌∷◌, ◌++◌, Option, length, get_or, take, drop, sym, ap, ◌∙◌, subst, arith, append_assoc}
+use Rattle.std.proofs.Common.{◌≡◌, ℕ, zero, suc, ◌+◌, ◌-◌, ◌*◌, ◌/◌, ◌≤◌, ◌<◌, List, [], ◌∷◌, ◌++◌, Option, length, get_or, take, drop, set, sym, ap, ◌∙◌, subst, arith, append_assoc, append-nil}
 use Rattle.std.proofs.Math.Nat.{suc-mul}
 use Rattle.std.proofs.Math.Seq.{split_at, take-append-add}
 use Rattle.std.proofs.KnownBytes.{Appends-trans}
@@ -42,3 +42,11 @@ prefix_at {X} f xs i x first middle last within here taken part =
     let cut_there : xs ≡ take i xs ++ (x ∷ drop (suc i) xs) = split_at xs i x within ∙ ap (λ (y : X). take i xs ++ (y ∷ drop (suc i) xs)) (sym here) in
     let parts : flat_map f xs ≡ flat_map f (take i xs) ++ (f x ++ flat_map f (drop (suc i) xs)) = ap (flat_map f) cut_there ∙ flat_map-append f (take i xs) (x ∷ drop (suc i) xs) in
     subst (λ (bytes : List ℕ). AppendsPrefix first last bytes) (sym parts) (prefix_behind first middle last (flat_map f (take i xs)) (f x) (flat_map f (drop (suc i) xs)) taken part)
+
+-- a text whose last piece, x, has become y, with more bytes behind it
+pub last_grown : {X : Type 0} (f : X → List ℕ) (xs : List X) (k : ℕ) (x y : X) (more : List ℕ) → k + 1 ≡ length xs → x ≡ get_or xs k x → f y ≡ f x ++ more → flat_map f (set xs k y) ≡ flat_map f xs ++ more
+last_grown f [] k x y more last here grown = absurd (omega arith)
+last_grown f (a ∷ []) zero x y more last here grown = append-nil (f y) ∙ grown ∙ ap (λ (bytes : List ℕ). bytes ++ more) (ap f here ∙ sym (append-nil (f a)))
+last_grown f (a ∷ (b ∷ bs)) zero x y more last here grown = absurd (omega arith)
+last_grown f (a ∷ rest) (suc k) x y more last here grown =
+    ap (λ (bytes : List ℕ). f a ++ bytes) (last_grown f rest k x y more (omega arith) here grown) ∙ sym (append_assoc (f a) (flat_map f rest) more)

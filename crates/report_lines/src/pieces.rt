@@ -1,5 +1,6 @@
 ghost use Rattle.std.specs.Prelude.{◌≡◌, ℕ, ◌<◌, ◌≤◌, [], ◌++◌, IfOk, OnOk, OnErr, Result, Vec, get_or, length};
 ghost use Rattle.std.specs.Io.KnownBytes.{Appends};
+ghost use Rattle.std.specs.List.{flat_map};
 ghost use Rattle.std.specs.declared.alloc.AllocError.{AllocError};
 ghost use Rattle.std.specs.declared.alloc.Global.{Global};
 ghost use Rattle.hg_base.specs.Outside.{HasCause, AppendsPrefix};
@@ -16,10 +17,14 @@ use std::thread::{Threads, map_indices};
 // How many pieces a list of lines is written in.
 const PIECES: usize = 16;
 
-// A list of fewer lines is written in one piece.
+// A list of fewer lines is made as one piece.
 const FEW: usize = 4096;
 
-/// A text in pieces, which are written one after another.
+// Pieces of no more bytes in all are joined to one: the room for few lines of 128 bytes each.
+const SMALL: usize = 524_288;
+
+/// A text in pieces, which are written one after another. Small ones are joined as they come, so that a small text is one
+/// piece.
 #[derive(Drop)]
 pub struct Pieces {
     pieces: Vec<Vec<u8>>,
@@ -53,16 +58,16 @@ impl Pieces {
         Ok(pieces)
     }
 
-    /// Appends a piece. Where there is no memory left the text stays.
+    /// Appends a piece, which becomes a part of the last one where both are small. Where there is no memory left the text
+    /// stays.
     pub fn push(&mut self, piece: Vec<u8>) -> Result<(), AllocError>
         ensures { OnOk result (self.new ≡ self.old ++ piece.items) }
     {
-        self.pieces.push(piece)?;
-        Ok(())
+        push_or_join(&mut self.pieces, piece)
     }
 
-    /// Appends a line that begins with a word, with one to six numbers after it, as a piece. Where there is no memory left
-    /// the text stays.
+    /// Appends a line that begins with a word, with one to six numbers after it. Where there is no memory left the text
+    /// stays.
     pub fn push_headed_line(
         &mut self,
         alloc: Global,
@@ -107,6 +112,18 @@ impl Pieces {
             text.extend_from_slice(piece)?;
         }
         Ok(text)
+    }
+}
+
+// Appends a piece to the bytes of the last one, where they are few together, and else as one more.
+fn push_or_join(pieces: &mut Vec<Vec<u8>>, piece: Vec<u8>) -> Result<(), AllocError>
+    ensures { OnOk result (flat_map (λ piece. piece.items) pieces.new.items ≡ flat_map (λ piece. piece.items) pieces.old.items ++ piece.items) }
+{
+    match pieces.last_mut() {
+        Some(last) if last.len().saturating_add(piece.len()) <= SMALL => {
+            last.extend_from_slice(&piece)
+        }
+        _ => Ok(pieces.push(piece)?),
     }
 }
 

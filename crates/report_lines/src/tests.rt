@@ -51,15 +51,15 @@ fn texts(rt: HostRuntime) -> Result<(), Fail> {
     Ok(())
 }
 
-// Ten thousand lines `NUMBER 0`: 10 of four bytes, 90 of five, 900 of six and 9,000 of seven.
+// Thirty thousand lines `NUMBER 18446744073709551615`: 10 of 23 bytes, 90 of 24, 900 of 25, 9,000 of 26 and 20,000 of 27.
 #[test]
 fn many_lines(rt: HostRuntime) -> Result<(), Fail> {
-    let numbers = Vec::from_elem(rt.alloc(), 0, 10_000)?;
+    let numbers = Vec::from_elem(rt.alloc(), u64::MAX, 30_000)?;
     let lines = NumberedLines { numbers: &numbers };
-    let whole = text_of(rt.alloc(), "rows", &[10_000], &lines)?;
-    assert_eq!(&rt; whole.len(), 11 + 40 + 450 + 5_400 + 63_000);
-    let pieces = pieces_of(&rt, rt.alloc(), "rows", &[10_000], &lines)?;
-    let mut sink = MemSink::with_room(rt.alloc(), 100_000, 1_000, Vec::new(rt.alloc()))?;
+    let whole = text_of(rt.alloc(), "rows", &[30_000], &lines)?;
+    assert_eq!(&rt; whole.len(), 11 + 230 + 2_160 + 22_500 + 234_000 + 540_000);
+    let pieces = pieces_of(&rt, rt.alloc(), "rows", &[30_000], &lines)?;
+    let mut sink = MemSink::with_room(rt.alloc(), 1_000_000, 1_000, Vec::new(rt.alloc()))?;
     write_pieces(&mut sink, &pieces)?;
     assert_eq!(&rt; sink.taken(), whole.as_slice());
     Ok(())
@@ -72,5 +72,21 @@ fn a_sink_that_is_full_has_the_first_bytes(rt: HostRuntime) -> Result<(), Fail> 
     let mut sink = MemSink::with_room(rt.alloc(), 4, 3, Vec::new(rt.alloc()))?;
     assert!(&rt; write_pieces(&mut sink, &pieces).is_err());
     assert_eq!(&rt; sink.taken(), b"abcd".as_slice());
+    Ok(())
+}
+
+// The sink takes four bytes a call, and one of its calls fails.
+#[test]
+fn a_small_report_is_written_as_one_piece(rt: HostRuntime) -> Result<(), Fail> {
+    let lines = NumberedLines {
+        numbers: &[7, 10, 99],
+    };
+    let text = b"rows 3\n0 7\n1 10\n2 99\n";
+    let pieces = pieces_of(&rt, rt.alloc(), "rows", &[3], &lines)?;
+    for call in 1..7 {
+        let mut sink = MemSink::with_room(rt.alloc(), 100, 4, vec![in rt.alloc(); call]?)?;
+        assert!(&rt; write_pieces(&mut sink, &pieces).is_err());
+        assert_eq!(&rt; sink.taken(), &text[..4 * (call as usize - 1)]);
+    }
     Ok(())
 }

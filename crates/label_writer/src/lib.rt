@@ -4,7 +4,7 @@
 mod picture;
 mod report;
 
-pub use picture::{LabelFault, write_pgm};
+pub use picture::{LabelFault, push_header, push_sample, write_pgm};
 pub use report::{labels_pieces, write_labels};
 
 #[cfg(test)]

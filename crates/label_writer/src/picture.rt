@@ -63,8 +63,9 @@ fn sample_size(greatest: u32) -> usize
     if greatest < TWO_BYTES_FROM { 1 } else { 2 }
 }
 
-// Appends the header of a picture of this width, height and greatest value.
-fn push_header(
+/// Appends the header of a picture of this width and height in pixels and of this greatest value. Where there is no memory
+/// left the bytes may end in a part of it.
+pub fn push_header(
     bytes: &mut Vec<u8>,
     width: u32,
     height: u32,
@@ -88,8 +89,8 @@ fn push_samples(bytes: &mut Vec<u8>, labels: &Labels) -> Result<(), AllocError>
     Ok(())
 }
 
-// Appends a sample of a picture of this greatest value.
-fn push_sample(bytes: &mut Vec<u8>, greatest: u32, sample: u32) -> Result<(), AllocError>
+/// Appends a sample of a picture of this greatest value. Where there is no memory left the bytes may end in its first byte.
+pub fn push_sample(bytes: &mut Vec<u8>, greatest: u32, sample: u32) -> Result<(), AllocError>
     requires up_to_greatest { sample ≤ greatest }
     requires two_bytes { greatest ≤ 65535 }
     ensures { OnOk result (bytes.new.items ≡ bytes.old.items ++ sample_bytes greatest sample) }

@@ -1,0 +1,4 @@
+pub mod EdgeNumbers
+pub mod MapPoints
+pub mod Scales
+pub mod Drawings

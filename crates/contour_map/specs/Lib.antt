@@ -1,0 +1,5 @@
+pub mod Places
+pub mod Contours
+pub mod Scaling
+pub mod Report
+pub mod Drawn

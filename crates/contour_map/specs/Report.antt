@@ -1,0 +1,12 @@
+-- The bytes of a contour map as a picture in the binary form P5 of the PGM format.
+use Rattle.std.specs.Prelude.{ℕ, List, ◌++◌, map}
+use Rattle.std.specs.List.{flat_map}
+use Rattle.label_writer.specs.Report.{header, sample_bytes}
+use Rattle.contour_map.specs.Contours.{PointGrid}
+use Rattle.contour_map.specs.Scaling.{highest, scaled, greatest_sample}
+
+-- the picture whose pixels are the points of the map
+abbrev pub contours_picture : PointGrid → List ℕ
+contours_picture m =
+    header m.columns m.rows (greatest_sample (highest m.points))
+    ++ flat_map (sample_bytes (greatest_sample (highest m.points))) (map (scaled (highest m.points)) m.points)

@@ -5,7 +5,7 @@ ghost use Rattle.forest_witness.specs.Reading.{IsRead};
 
 use hg_base::Graph;
 
-/// Reads each edge. A graph vouches for the ends of an edge only where it is read.
+/// Reads each edge, so that what a graph keeps to is known of it.
 pub(crate) fn read_edges(graph: &Graph)
     ensures { IsRead graph.now }
 {

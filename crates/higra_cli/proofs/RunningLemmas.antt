@@ -28,7 +28,7 @@ AppendsPrefix-either (Ok x) old new bytes line same all part = subst (λ (bs : L
 AppendsPrefix-either (Err e) old new bytes line same all part = subst (λ (bs : List ℕ). AppendsPrefix old new bs) same part
 
 -- the input that a request got is the input of the request
-input_for-got : (m : Option Made) (old new : Option (List ℕ)) (input : Input) → GotInput m old new input → (bytes : List ℕ) → AreBytesOf m old bytes → input_for m bytes ≡ Ok input
+pub input_for-got : (m : Option Made) (old new : Option (List ℕ)) (input : Input) → GotInput m old new input → (bytes : List ℕ) → AreBytesOf m old bytes → input_for m bytes ≡ Ok input
 input_for-got (Some m) old new input got bytes are = ap Ok (sym got.1)
 input_for-got None old new input got bytes are = AreRead-all old new got.0 (Ok input) got.1.0 got.1.1 bytes are
 

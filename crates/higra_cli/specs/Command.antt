@@ -1,7 +1,7 @@
 -- The program's command line: what is declared to `clap`, the texts that it finds, and the request that they give.
-use Rattle.std.specs.Prelude.{ℕ, true, List, [], ◌∷◌, Option, Some, None, codes}
+use Rattle.std.specs.Prelude.{◌≡◌, ℕ, true, List, [], ◌∷◌, Option, Some, None, codes}
 use Rattle.clap.specs.Kinds.{Kinds}
-use Rattle.clap.specs.Words.{App, Row, fault_of, first_of, matches_of, new_app, new_rule, with_rule}
+use Rattle.clap.specs.Words.{App, Row, fault_of, first_of, is_simple, is_simple_and_free, matches_of, new_app, new_rule, with_rule}
 use Rattle.higra_cli.specs.Request.{CommandLine, ◌>>=◌, request_by}
 use Rattle.higra_cli.specs.declared.request.Request.{Request}
 
@@ -26,6 +26,11 @@ without_fault (kind ∷ kinds) rows = None
 -- what `clap` finds in a line of words that begins with the program's name, where the line has no fault
 abbrev pub found_by : App → List (List ℕ) → Option (List Row)
 found_by command line = without_fault (fault_of command line) (matches_of command line)
+
+-- a command of whose lines `clap` says what it finds, and by which fault it refuses one
+pub record IsReadable (command : App) : Type 0 where
+  pub simple : is_simple command ≡ true
+  pub free : is_simple_and_free command ≡ true
 
 unfoldable pub rows_on : List (List ℕ) → Option (List Row)
 rows_on line = found_by higra line

@@ -1,7 +1,7 @@
 // The command line as `clap` reads it.
 ghost use Rattle.std.specs.Prelude.{◌≡◌, Some, IfOk, map, option_map};
 ghost use Rattle.clap.specs.Words.{app_of, first_of, found_of, rows_of};
-ghost use Rattle.higra_cli.specs.Command.{higra, rows_on, texts_in, with_option, with_report};
+ghost use Rattle.higra_cli.specs.Command.{IsReadable, found_by, higra, rows_on, texts_in, with_option, with_report};
 ghost use Rattle.higra_cli.specs.Given.{texts_of};
 
 use super::request::WordsFault;
@@ -31,6 +31,19 @@ pub(crate) fn matches_on<'a>(
     ensures usage { result ≡ Err WordsFault.Usage → rows_on (map (λ s. s.now) line.entry.now) ≡ None }
 {
     let command = command(alloc)?;
+    matches_by(command, line)
+}
+
+/// Reads a line of words that begins with a program's name, as the program's command. Usage exactly where `clap` finds a
+/// fault in it, memory aside.
+pub fn matches_by<'a>(
+    command: Command<'a>,
+    line: &'a [&'a str],
+) -> Result<ArgMatches<'a>, WordsFault>
+    requires { IsReadable (app_of command) }
+    ensures found { IfOk result (λ matches. found_by (app_of command.entry) (map (λ s. s.now) line.entry.now) ≡ Some (rows_of (found_of matches))) }
+    ensures usage { result ≡ Err WordsFault.Usage → found_by (app_of command.entry) (map (λ s. s.now) line.entry.now) ≡ None }
+{
     match command.try_get_matches_from(line) {
         Ok(matches) => Ok(matches),
         Err(error) => match error.kind() {
@@ -64,9 +77,9 @@ fn with_report<'a>(alloc: Global, command: Command<'a>) -> Result<Command<'a>, A
     command.arg(Arg::new(alloc, "report").required(true))
 }
 
-// The command with an option of this name, which has one text as its value.
+/// The command with an option of this name, which has one text as its value. The error is want of memory.
 #[tactic(auto, unfolding(crate::specs::Command::with_option))]
-fn with_option<'a>(
+pub fn with_option<'a>(
     alloc: Global,
     command: Command<'a>,
     name: &'a str,
@@ -81,19 +94,19 @@ pub(crate) fn texts_in<'a>(matches: &ArgMatches<'a>) -> Option<Given<'a>>
     ensures { option_map texts_of result ≡ texts_in (rows_of (found_of matches.now)) }
 {
     Some(Given {
-        report: text_of(matches, "report")?,
-        tile: text_of(matches, "tile"),
-        workers: text_of(matches, "workers"),
-        kind: text_of(matches, "kind"),
-        level: text_of(matches, "level"),
-        form: text_of(matches, "form"),
-        make: text_of(matches, "make"),
-        seed: text_of(matches, "seed"),
+        report: found_text(matches, "report")?,
+        tile: found_text(matches, "tile"),
+        workers: found_text(matches, "workers"),
+        kind: found_text(matches, "kind"),
+        level: found_text(matches, "level"),
+        form: found_text(matches, "form"),
+        make: found_text(matches, "make"),
+        seed: found_text(matches, "seed"),
     })
 }
 
-// The text that was found under this name.
-fn text_of<'a>(matches: &ArgMatches<'a>, name: &str) -> Option<&'a str>
+/// The text that was found under this name.
+pub fn found_text<'a>(matches: &ArgMatches<'a>, name: &str) -> Option<&'a str>
     ensures { option_map (λ s. s.now) result ≡ first_of name.now (rows_of (found_of matches.now)) }
 {
     matches.get_str(name)

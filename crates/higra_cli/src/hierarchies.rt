@@ -23,14 +23,14 @@ use watershed_cut::Minima;
 
 /// The minima of a graph, and the attributes of the nodes of its tree.
 #[derive(Drop)]
-pub(crate) struct Basins {
-    pub(crate) attributes: Attributes,
-    pub(crate) minima: Minima,
+pub struct Basins {
+    pub attributes: Attributes,
+    pub minima: Minima,
 }
 
 impl Basins {
-    /// Those of a graph, of which order and tree are its own.
-    pub(crate) fn of(
+    /// Those of a graph, of which order and tree are its own. The error is want of memory.
+    pub fn of(
         alloc: Global,
         graph: &Graph,
         order: &Order,
@@ -46,8 +46,8 @@ impl Basins {
         Ok(Basins { attributes, minima })
     }
 
-    /// The hierarchical watershed of the graph by a kind.
-    pub(crate) fn hierarchy(
+    /// The hierarchical watershed of the graph by a kind. The error is want of memory.
+    pub fn hierarchy(
         &self,
         alloc: Global,
         graph: &Graph,

@@ -21,12 +21,17 @@ mod texts;
 mod words;
 mod writing;
 
+pub use command::{found_text, matches_by, with_option};
 pub use ending::Status;
 pub use extinction::Kind;
+pub use hierarchies::Basins;
 pub use input::Input;
 pub use line::{FaultLine, kind_name};
+pub use merging::tree_of;
+pub use options::{cut_tree_named, made_by, tile_by, workers_by};
+pub use planning::{Planned, plan_pixels};
 pub use request::{Form, Made, Report, Request, WordsFault, request_of};
-pub use running::run;
+pub use running::{input_for, run, tell};
 pub use words::Words;
 pub use writing::{RunFault, report};
 

@@ -12,7 +12,7 @@ use extinction::Kind;
 const MOST_DIGITS: usize = 20;
 
 /// `--tile`: the greatest number of vertices in a tile of an edge list, or the side of a tile of a picture.
-pub(crate) fn tile_by(text: Option<&str>) -> Option<u32>
+pub fn tile_by(text: Option<&str>) -> Option<u32>
     ensures value { result ≡ tile_by (option_map (λ s. s.now) text.entry) }
     ensures some { IfSome result (λ tile. 1 ≤ tile) }
     ensures most { IfSome result (λ tile. tile ≤ 1048576) }
@@ -24,7 +24,7 @@ pub(crate) fn tile_by(text: Option<&str>) -> Option<u32>
 }
 
 /// `--workers`: how many workers merge tiles.
-pub(crate) fn workers_by(text: Option<&str>) -> Option<u32>
+pub fn workers_by(text: Option<&str>) -> Option<u32>
     ensures value { result ≡ workers_by (option_map (λ s. s.now) text.entry) }
     ensures some { IfSome result (λ workers. 1 ≤ workers) }
     ensures most { IfSome result (λ workers. workers ≤ 64) }
@@ -67,8 +67,8 @@ pub(crate) fn cut_tree_by(text: Option<&str>) -> Option<Option<Kind>>
     }
 }
 
-// The tree with this name that a cut is of.
-fn cut_tree_named(text: &str) -> Option<Option<Kind>>
+/// The tree with this name that a cut is of. None is the graph's own.
+pub fn cut_tree_named(text: &str) -> Option<Option<Kind>>
     ensures { result ≡ cut_tree_named text.now }
 {
     if text == "altitude" {
@@ -124,7 +124,7 @@ fn can_be_drawn(report: Report) -> bool
 }
 
 /// `--make` and `--seed`: the picture that is made, if one is. A seed needs a side.
-pub(crate) fn made_by(make: Option<&str>, seed: Option<&str>) -> Option<Option<Made>>
+pub fn made_by(make: Option<&str>, seed: Option<&str>) -> Option<Option<Made>>
     ensures value { result ≡ made_by (option_map (λ s. s.now) make.entry) (option_map (λ s. s.now) seed.entry) }
     ensures can_make { IfSome result (λ made. IfSome made CanMake) }
 {

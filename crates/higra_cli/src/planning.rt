@@ -31,9 +31,9 @@ impl From<PlanFault> for RunFault {
 
 /// The order of a graph's edges, and the plan of its tiles.
 #[derive(Drop)]
-pub(crate) struct Planned {
-    pub(crate) order: Order,
-    pub(crate) plan: Plan,
+pub struct Planned {
+    pub order: Order,
+    pub plan: Plan,
 }
 
 /// The plan of a graph, in blocks of `tile` vertices. The fault is TooManyTiles, with the count, exactly where
@@ -50,14 +50,14 @@ pub(crate) fn plan_edges(
     ensures over { IfOk result (IsPlanOver graph.now) }
 {
     let order = Order::of(rt, alloc, graph)?;
-    let plan = Plan::blocks(alloc, graph, &order, tile)?;
+    let plan = Plan::blocks_in_threads(rt, alloc, graph, &order, tile)?;
     Ok(Planned { order, plan })
 }
 
 /// The plan of a graph over the pixels of a picture, in squares of side `tile`. The fault is TooManyTiles, with the count,
 /// exactly where there are more than 65,536. Memory may run out.
 #[tactic(auto, using(crate::proofs::PlanningLemmas::planned_is, crate::proofs::PlanningLemmas::plan_refused))]
-pub(crate) fn plan_pixels(
+pub fn plan_pixels(
     rt: &(impl Threads + Sync),
     alloc: Global,
     picture: &Picture,
@@ -70,7 +70,8 @@ pub(crate) fn plan_pixels(
     ensures over { IfOk result (IsPlanOver graph.now) }
 {
     let order = Order::of(rt, alloc, graph)?;
-    let plan = Plan::squares(
+    let plan = Plan::squares_in_threads(
+        rt,
         alloc,
         graph,
         &order,

@@ -15,10 +15,11 @@ use super::line::FaultLine;
 use super::reading::read_input;
 use super::request::{Made, Request, request_of};
 use super::words::Words;
-use super::writing::{RunFault, report};
+use super::writing::{RunFault, report_in_pieces};
 use hg_base::{Gate, Sink, Source, write_all};
 use merge_board::Receipt;
 use pgm_reader::make_picture;
+use report_lines::write_pieces;
 use std::alloc::Global;
 use std::thread::Threads;
 
@@ -105,7 +106,7 @@ fn work<S: Source, K: Sink, G: Gate>(
 }
 
 // Makes the report that is asked for and writes it.
-#[tactic(auto, using(crate::proofs::RunningLemmas::reports_written))]
+#[tactic(auto, using(crate::proofs::RunningLemmas::reports_written), unfolding(crate::specs::Reports::refusal, crate::specs::Reports::report_of))]
 fn write_report<K: Sink, G: Gate>(
     rt: &(impl Threads + Sync),
     alloc: Global,
@@ -120,8 +121,8 @@ fn write_report<K: Sink, G: Gate>(
     ensures asked { IfErr result (λ status. status ≢ Status.Usage) }
     ensures unwritten { IfErr result (λ status. status ≢ Status.WriteFailed → out.new ≡ out.old) }
 {
-    match report(rt, alloc, request, input, gate) {
-        Ok((bytes, receipt)) => match write_all(out, &bytes) {
+    match report_in_pieces(rt, alloc, request, input, gate) {
+        Ok((pieces, receipt)) => match write_pieces(out, &pieces) {
             Ok(()) => Ok(receipt),
             Err(_) => Err(Status::WriteFailed),
         },
@@ -130,8 +131,13 @@ fn write_report<K: Sink, G: Gate>(
     }
 }
 
-// The input of a request: the picture that it has made, or what the source gives.
-fn input_for<S: Source>(alloc: Global, made: Option<Made>, source: &mut S) -> Result<Input, Status>
+/// The input of a request: the picture that it has made, or else what the source gives, which is read to its end. An error
+/// is the status with which the run ends.
+pub fn input_for<S: Source>(
+    alloc: Global,
+    made: Option<Made>,
+    source: &mut S,
+) -> Result<Input, Status>
     requires { IfSome made CanMake }
     ensures ends { EndsGetting made (told (S.left source.old) (S.faults source.old)) (told (S.left source.new) (S.faults source.new)) result }
     ensures most { GaveAtMost 134217729 (S.left source.old) (S.left source.new) }
@@ -143,8 +149,8 @@ fn input_for<S: Source>(alloc: Global, made: Option<Made>, source: &mut S) -> Re
     }
 }
 
-// Writes the fault line of the status, as far as the sink takes it.
-fn tell<E: Sink>(status: &Status, err: &mut E)
+/// Writes the fault line of the status, as far as the sink takes it.
+pub fn tell<E: Sink>(status: &Status, err: &mut E)
     ensures line { AppendsPrefix (E.content err.old) (E.content err.new) (fault_line status.now) }
     ensures whole_line { StoodStill (E.faults err.old) (E.faults err.new) → Appends (E.content err.old) (E.content err.new) (fault_line status.now) }
 {

@@ -38,12 +38,8 @@ impl Words {
         Ok(())
     }
 
-    // The words behind this name: a whole command line.
-    pub(crate) fn behind<'a>(
-        &'a self,
-        alloc: Global,
-        name: &'a str,
-    ) -> Result<Vec<&'a str>, AllocError>
+    /// The words behind the name of a program: a whole command line. The error is want of memory.
+    pub fn behind<'a>(&'a self, alloc: Global, name: &'a str) -> Result<Vec<&'a str>, AllocError>
         ensures { IfOk result (λ line. map (λ s. s.now) line.items ≡ name.entry.now ∷ self.entry.now) }
     {
         let mut line = Vec::with_capacity(alloc, self.texts.len() + 1)?;

@@ -1,9 +1,12 @@
-use Rattle.std.proofs.Common.{◌∙◌}
-use Rattle.higra_cli.proofs.CommandLemmas.{rows_on-matches, rows_on-error}
+use Rattle.std.proofs.lemmas.Result.{IfOk-weaker}
+use Rattle.higra_cli.proofs.CommandLemmas.{higra-readable, rows_on-found}
 use Rattle.higra_cli.proofs.command.matches_on.Goals as goal
 
-pub returns-in-Ok-clause-found : goal.returns-in-Ok-clause-found
-returns-in-Ok-clause-found c = rows_on-matches _ _ c.in-Ok.matches c.in_ok-command.ensures c.in-Ok.ensures.matches c.in-Ok.ensures.kinds
+pub matches_by-requires : goal.matches_by-requires
+matches_by-requires c = higra-readable _ c.in_ok-command.ensures
+
+pub returns-clause-found : goal.returns-clause-found
+returns-clause-found c = IfOk-weaker c.matches_by.result _ _ (λ matches found. rows_on-found _ _ _ c.in_ok-command.ensures found) c.matches_by.ensures.found
 
 pub returns-clause-usage : goal.returns-clause-usage
-returns-clause-usage c usage = rows_on-error _ _ c.in-Err.error c.in_ok-command.ensures c.in-Err.ensures.kinds (λ memory. c.in_default.not-OutOfMemory (c.kind.ensures ∙ memory))
+returns-clause-usage c usage = rows_on-found _ _ _ c.in_ok-command.ensures (c.matches_by.ensures.usage usage)

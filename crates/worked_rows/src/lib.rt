@@ -4,17 +4,22 @@
 //! and outputs, so they check that the definitions say what is meant.
 #![tactic(auto)]
 
+mod components;
 mod edge_list;
+mod energy;
 mod hierarchy;
 mod levels;
 mod minima;
 mod node_attributes;
+mod persistence;
 mod picture;
 mod report;
 mod tree;
 mod watershed;
 mod zones;
 
+pub use components::{PlainSide, components_of};
+pub use persistence::PlainKind;
 pub use picture::made_picture;
 pub use report::{PlainReport, report_of};
 
@@ -22,6 +27,10 @@ pub use report::{PlainReport, report_of};
 mod gate_tests;
 #[cfg(test)]
 mod outside_tests;
+#[cfg(test)]
+mod plain_tests;
+#[cfg(test)]
+mod refusal_tests;
 #[cfg(test)]
 mod running;
 #[cfg(test)]

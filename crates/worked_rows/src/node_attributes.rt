@@ -30,7 +30,11 @@ fn floor(graph: &PlainGraph, x: usize) -> u64 {
 }
 
 /// The vertices of a node: the leaves whose path has it.
-fn vertices(alloc: Global, tree: &PlainTree, node: usize) -> Result<Vec<usize>, AllocError> {
+pub(crate) fn vertices(
+    alloc: Global,
+    tree: &PlainTree,
+    node: usize,
+) -> Result<Vec<usize>, AllocError> {
     let mut vertices = Vec::new(alloc);
     for x in 0..tree.leaves {
         if tree.path(alloc, x)?.contains(&node) {

@@ -1,7 +1,9 @@
 use crate::edge_list::{PlainGraph, read_graph};
+use crate::energy::energy_cut;
 use crate::levels::{heads, regions_up_to, saliencies};
 use crate::minima::minima_of;
 use crate::node_attributes::attributes;
+use crate::persistence::{PlainKind, hierarchical};
 use crate::tree::{PlainTree, tree_of};
 use crate::watershed::watershed_of;
 use crate::zones::zones_of;
@@ -24,8 +26,14 @@ pub enum PlainReport {
     Watershed,
     /// Counts and sums of the others.
     Summary,
+    /// The hierarchical watershed.
+    Hierarchical(PlainKind),
     /// The regions of the tree at a level.
     Cut(u64),
+    /// The regions of the hierarchical watershed at a level.
+    CutHierarchy(PlainKind, u64),
+    /// The cut of least energy with a penalty for each region.
+    Energy(u64),
 }
 
 /// The text of a tree.
@@ -171,6 +179,53 @@ fn cut_text(alloc: Global, tree: &PlainTree, level: u64) -> Result<String, Alloc
     Ok(text)
 }
 
+/// The text of the hierarchical watershed of a graph.
+fn hierarchical_text(
+    alloc: Global,
+    graph: &PlainGraph,
+    kind: PlainKind,
+) -> Result<String, AllocError> {
+    let hierarchy = hierarchical(alloc, graph, &minima_of(alloc, graph)?, kind)?;
+    let mut text = tree_text(alloc, &hierarchy.tree)?;
+    let count = hierarchy.extinctions.len();
+    writeln!(text, "extinctions {count}")?;
+    for (below, value) in hierarchy.extinctions.iter().enumerate() {
+        let label = below.saturating_add(1);
+        writeln!(text, "{label} {value}")?;
+    }
+    Ok(text)
+}
+
+/// The text of the regions of the hierarchical watershed of a graph at a level.
+fn cut_hierarchy_text(
+    alloc: Global,
+    graph: &PlainGraph,
+    kind: PlainKind,
+    level: u64,
+) -> Result<String, AllocError> {
+    let hierarchy = hierarchical(alloc, graph, &minima_of(alloc, graph)?, kind)?;
+    cut_text(alloc, &hierarchy.tree, level)
+}
+
+/// The text of the least cut of a graph's tree.
+fn energy_text(alloc: Global, graph: &PlainGraph, penalty: u64) -> Result<String, AllocError> {
+    let cut = energy_cut(alloc, graph, penalty)?;
+    let heads = cut.heads(alloc)?;
+    let n = heads.len();
+    let regions = cut.nodes.len();
+    let sum = cut.sum;
+    let mut text = format!(in alloc; "energy {n} {regions} {sum}\n")?;
+    for node in &cut.nodes {
+        let energy = cut.energies.get(*node).copied().unwrap_or(0);
+        writeln!(text, "node {node} {energy}")?;
+    }
+    for (vertex, head) in heads.iter().enumerate() {
+        let label = regions_up_to(&heads, *head);
+        writeln!(text, "v {vertex} {label}")?;
+    }
+    Ok(text)
+}
+
 /// The report about a text that is a well-formed edge list; `None` of any other text.
 pub fn report_of(
     alloc: Global,
@@ -189,6 +244,9 @@ pub fn report_of(
         PlainReport::Minima => minima_text(alloc, &graph)?,
         PlainReport::Watershed => watershed_text(alloc, &graph)?,
         PlainReport::Summary => summary_text(alloc, &graph, &tree)?,
+        PlainReport::Hierarchical(kind) => hierarchical_text(alloc, &graph, kind)?,
         PlainReport::Cut(level) => cut_text(alloc, &tree, level)?,
+        PlainReport::CutHierarchy(kind, level) => cut_hierarchy_text(alloc, &graph, kind, level)?,
+        PlainReport::Energy(penalty) => energy_text(alloc, &graph, penalty)?,
     }))
 }

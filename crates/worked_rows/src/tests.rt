@@ -1,5 +1,5 @@
 use crate::running::{Ran, run_well};
-use crate::{PlainReport, made_picture, report_of};
+use crate::{PlainKind, PlainReport, PlainSide, components_of, made_picture, report_of};
 use std::alloc::{AllocError, Global};
 use std::process::Abort;
 use std::test::Fail;
@@ -10,7 +10,7 @@ const TRIANGLE: &str = "graph 3 3\n0 1 1\n1 2 1\n0 2 1\n";
 const PATH: &str = "graph 4 3\n0 1 1\n1 2 5\n2 3 2\n";
 
 /// The reports and inputs that were worked out by hand, and what is written.
-const WORKED: [(&[&str], PlainReport, &str, &str); 29] = [
+const WORKED: [(&[&str], PlainReport, &str, &str); 42] = [
     (
         &["tree"],
         PlainReport::Tree,
@@ -185,6 +185,84 @@ const WORKED: [(&[&str], PlainReport, &str, &str); 29] = [
         "graph 3 1\n0 1 4\n",
         "watershed 3 2 0 0 0\nv 0 1\nv 1 1\nv 2 2\n",
     ),
+    (
+        &["hierarchical"],
+        PlainReport::Hierarchical(PlainKind::Dynamics),
+        "graph 1 0\n",
+        "tree 1 1\n0 0 0\nextinctions 1\n1 0\n",
+    ),
+    (
+        &["hierarchical", "--kind", "dynamics"],
+        PlainReport::Hierarchical(PlainKind::Dynamics),
+        PATH,
+        "tree 7 4\n0 4 0\n1 4 0\n2 5 0\n3 5 0\n4 6 0\n5 6 0\n6 6 3\nextinctions 2\n1 4\n2 3\n",
+    ),
+    (
+        &["hierarchical", "--kind", "volume"],
+        PlainReport::Hierarchical(PlainKind::Volume),
+        PATH,
+        "tree 7 4\n0 4 0\n1 4 0\n2 5 0\n3 5 0\n4 6 0\n5 6 0\n6 6 6\nextinctions 2\n1 14\n2 6\n",
+    ),
+    (
+        &["hierarchical", "--kind", "area"],
+        PlainReport::Hierarchical(PlainKind::Area),
+        PATH,
+        "tree 7 4\n0 4 0\n1 4 0\n2 5 0\n3 5 0\n4 6 0\n5 6 0\n6 6 2\nextinctions 2\n1 4\n2 2\n",
+    ),
+    (
+        &["hierarchical"],
+        PlainReport::Hierarchical(PlainKind::Dynamics),
+        "graph 6 5\n0 1 1\n1 2 4\n2 3 2\n3 4 6\n4 5 1\n",
+        "tree 11 6\n0 6 0\n1 6 0\n2 8 0\n3 8 0\n4 7 0\n5 7 0\n6 9 0\n7 10 0\n8 9 0\n9 10 2\n10 10 5\nextinctions 3\n1 5\n2 2\n3 5\n",
+    ),
+    (
+        &["hierarchical"],
+        PlainReport::Hierarchical(PlainKind::Dynamics),
+        "graph 3 1\n0 1 4\n",
+        "tree 4 3\n0 3 0\n1 3 0\n2 2 0\n3 3 0\nextinctions 2\n1 0\n2 0\n",
+    ),
+    (
+        &["hierarchical", "--kind", "area"],
+        PlainReport::Hierarchical(PlainKind::Area),
+        "graph2 4 3\n1 1 1 10\n0 1 1\n1 2 5\n2 3 2\n",
+        "tree 7 4\n0 4 0\n1 4 0\n2 5 0\n3 5 0\n4 6 0\n5 6 0\n6 6 2\nextinctions 2\n1 2\n2 13\n",
+    ),
+    (
+        &["cut", "--kind", "dynamics", "--level", "2"],
+        PlainReport::CutHierarchy(PlainKind::Dynamics, 2),
+        PATH,
+        "labels 4 2\n0 1\n1 1\n2 2\n3 2\n",
+    ),
+    (
+        &["cut", "--kind", "dynamics", "--level", "3"],
+        PlainReport::CutHierarchy(PlainKind::Dynamics, 3),
+        PATH,
+        "labels 4 1\n0 1\n1 1\n2 1\n3 1\n",
+    ),
+    (
+        &["energy"],
+        PlainReport::Energy(0),
+        PATH,
+        "energy 4 4 0\nnode 0 0\nnode 1 0\nnode 2 0\nnode 3 0\nv 0 1\nv 1 2\nv 2 3\nv 3 4\n",
+    ),
+    (
+        &["energy", "--level", "2"],
+        PlainReport::Energy(2),
+        PATH,
+        "energy 4 3 8\nnode 2 2\nnode 3 2\nnode 4 4\nv 0 1\nv 1 1\nv 2 2\nv 3 3\n",
+    ),
+    (
+        &["energy", "--level", "14"],
+        PlainReport::Energy(14),
+        PATH,
+        "energy 4 1 34\nnode 6 34\nv 0 1\nv 1 1\nv 2 1\nv 3 1\n",
+    ),
+    (
+        &["energy", "--level", "7"],
+        PlainReport::Energy(7),
+        "graph 3 1\n0 1 4\n",
+        "energy 3 3 21\nnode 0 7\nnode 1 7\nnode 2 7\nv 0 1\nv 1 2\nv 2 3\n",
+    ),
 ];
 
 #[test]
@@ -279,8 +357,82 @@ fn the_program_writes_the_worked_reports(rt: HostRuntime) -> Result<(), Fail> {
     runs_with_each_tiling(&rt, rt.alloc(), &["tree"], picture, want)
 }
 
+/// Pictures, and their component trees that were worked out by hand.
+const COMPONENTS: [(&str, &str, &str); 3] = [
+    (
+        "mintree",
+        "P5\n2 2\n9\n\0\x03\x03\t",
+        "mintree 7 4\n0 4 0\n1 5 3\n2 5 3\n3 6 9\n4 5 0\n5 6 3\n6 6 9\n",
+    ),
+    (
+        "maxtree",
+        "P5\n2 2\n9\n\0\x03\x03\t",
+        "maxtree 7 4\n0 6 0\n1 5 3\n2 5 3\n3 4 9\n4 5 9\n5 6 3\n6 6 0\n",
+    ),
+    (
+        "mintree",
+        "P5 3 1 9\n\x02\x05\x02",
+        "mintree 6 3\n0 3 2\n1 5 5\n2 4 2\n3 5 2\n4 5 2\n5 5 5\n",
+    ),
+];
+
+#[test]
+fn the_program_writes_the_worked_component_trees(rt: HostRuntime) -> Result<(), Fail> {
+    for (word, picture, want) in COMPONENTS {
+        runs_with_each_tiling(&rt, rt.alloc(), &[word], picture, want)?;
+    }
+    Ok(())
+}
+
+/// The component trees of a side, and their word.
+const SIDES: [(&str, PlainSide); 2] = [("mintree", PlainSide::Min), ("maxtree", PlainSide::Max)];
+
+/// The samples of a mixed picture of 2 to 4 columns and 1 to 4 rows, so few that many are equal.
+fn mixed_samples(alloc: Global, width: usize, seed: u32) -> Result<Vec<u64>, AllocError> {
+    let rows = 1 + (seed as usize / 3) % 4;
+    let mut samples = Vec::new(alloc);
+    let mut state = next(seed);
+    for _ in 0..width * rows {
+        samples.push(u64::from((state >> 24) % 5))?;
+        state = next(state);
+    }
+    Ok(samples)
+}
+
+/// The picture with these samples.
+fn picture_with(alloc: Global, width: usize, samples: &[u64]) -> Result<String, AllocError> {
+    let rows = samples.len() / width.max(1);
+    let mut text = format!(in alloc; "P5 {width} {rows} 9\n")?;
+    for sample in samples {
+        text.push(char::from((*sample & 7) as u8))?;
+    }
+    Ok(text)
+}
+
+#[test]
+fn the_program_and_the_definitions_agree_on_component_trees(rt: HostRuntime) -> Result<(), Fail> {
+    for seed in 0..36 {
+        let width = 2 + seed as usize % 3;
+        let samples = mixed_samples(rt.alloc(), width, seed)?;
+        let picture = picture_with(rt.alloc(), width, &samples)?;
+        let tiling = TILINGS[seed as usize % TILINGS.len()];
+        for (word, side) in SIDES {
+            let want = components_of(rt.alloc(), width, &samples, side)?;
+            runs(
+                &rt,
+                rt.alloc(),
+                &[word],
+                tiling,
+                picture.as_str(),
+                want.as_str(),
+            )?;
+        }
+    }
+    Ok(())
+}
+
 /// Reports that are compared on many graphs, and their words.
-const COMPARED: [(&[&str], PlainReport); 11] = [
+const COMPARED: [(&[&str], PlainReport); 19] = [
     (&["tree"], PlainReport::Tree),
     (&["zones"], PlainReport::Zones),
     (&["saliency"], PlainReport::Saliency),
@@ -292,6 +444,32 @@ const COMPARED: [(&[&str], PlainReport); 11] = [
     (&["cut", "--level", "1"], PlainReport::Cut(1)),
     (&["cut", "--level", "2"], PlainReport::Cut(2)),
     (&["cut", "--level", "3"], PlainReport::Cut(3)),
+    (
+        &["hierarchical", "--kind", "area"],
+        PlainReport::Hierarchical(PlainKind::Area),
+    ),
+    (
+        &["hierarchical", "--kind", "volume"],
+        PlainReport::Hierarchical(PlainKind::Volume),
+    ),
+    (
+        &["hierarchical", "--kind", "dynamics"],
+        PlainReport::Hierarchical(PlainKind::Dynamics),
+    ),
+    (
+        &["cut", "--kind", "area"],
+        PlainReport::CutHierarchy(PlainKind::Area, 0),
+    ),
+    (
+        &["cut", "--kind", "volume", "--level", "2"],
+        PlainReport::CutHierarchy(PlainKind::Volume, 2),
+    ),
+    (
+        &["cut", "--kind", "dynamics", "--level", "1"],
+        PlainReport::CutHierarchy(PlainKind::Dynamics, 1),
+    ),
+    (&["energy", "--level", "1"], PlainReport::Energy(1)),
+    (&["energy", "--level", "5"], PlainReport::Energy(5)),
 ];
 
 /// The next number of a generator, which is good enough to mix small graphs.
@@ -369,12 +547,16 @@ const MADE: [(&[&str], u32, u32); 6] = [
 ];
 
 /// Reports that are compared on made pictures.
-const COMPARED_ON_PICTURES: [(&str, PlainReport); 5] = [
+const COMPARED_ON_PICTURES: [(&str, PlainReport); 6] = [
     ("tree", PlainReport::Tree),
     ("attributes", PlainReport::Attributes),
     ("minima", PlainReport::Minima),
     ("watershed", PlainReport::Watershed),
     ("summary", PlainReport::Summary),
+    (
+        "hierarchical",
+        PlainReport::Hierarchical(PlainKind::Dynamics),
+    ),
 ];
 
 /// Compares the program's reports on a picture that it makes by these words with those of the definitions.

@@ -3,8 +3,8 @@
 
   inputs.py FOLDER [--largest]
 
-Standard library alone, the same bytes at every run. With --largest also the largest edge list and the largest star,
-120 MB of text.
+Standard library alone, the same bytes at every run. With --largest also the largest edge list, the largest star and the
+largest pictures of one row, of one column and square, 130 MB.
 """
 import argparse
 import os
@@ -93,6 +93,9 @@ def write_largest(folder):
     n = 1_048_576
     write_list(folder, 'largest_star', n, star(n, range(1, n)))
     write_list(folder, 'largest', n, sparse(n, 4_194_304, random.Random(11)))
+    samples = random.Random(13).choices(range(65_536), k=n)
+    for name, width in ('row', n), ('column', 1), ('square', 1024):
+        write_picture(folder, 'largest_' + name, width, 65_535, samples)
 
 
 def main():

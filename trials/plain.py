@@ -1,8 +1,8 @@
 """A plain, slow program written straight from the definitions of docs/rules.md, as a second opinion on higra.
 
-answer(words, bytes) is what a run must do: its status, the bytes on standard output and those on standard error. It is
-for inputs of a few dozen vertices: it spreads over edges to find who is joined, looks at every vertex for every edge, and
-lists all cuts of a tree to find the least. Standard library alone.
+answer(words, bytes) is what a run must do: its status, the bytes on standard output and those on standard error;
+batch_answer is the same of a batch. They are for inputs of a few dozen vertices: they spread over edges to find who is
+joined, look at every vertex for every edge, and list all cuts of a tree to find the least. Standard library alone.
 """
 import functools
 import itertools
@@ -548,10 +548,12 @@ def tiles(graph, tile):
     return -(-graph.picture.width // tile) * -(-graph.picture.height // tile)
 
 
-def graph_from(asked, data):
-    if asked.side:
-        return picture_graph(made_picture(asked.side, asked.seed))
+def graph_of(data):
     return picture_graph(read_picture(data)) if is_picture(data) else read_edge_list(data)
+
+
+def graph_from(asked, data):
+    return picture_graph(made_picture(asked.side, asked.seed)) if asked.side else graph_of(data)
 
 
 def report_about(graph, asked):
@@ -567,5 +569,41 @@ def answer(words, data):
     try:
         asked = Asked(words)
         return 0, report_about(graph_from(asked, data), asked), b''
+    except Fault as fault:
+        return 3, b'', fault.line().encode()
+
+
+# Batches.
+
+def reading(piece):
+    """The graph of a piece, or its fault."""
+    try:
+        return read_edge_list(piece)
+    except Fault as fault:
+        return fault
+
+
+def job_text(number, read, asked):
+    try:
+        if isinstance(read, Fault):
+            raise read
+        report = report_about(read, asked)
+        return f'job {number} 0 {len(report)}\n'.encode() + report
+    except Fault as fault:
+        return f'job {number} 3 {fault.number} {NAMES[fault.number]} {fault.at} {fault.value}\n'.encode()
+
+
+def batch_answer(words, data):
+    """Status, standard output and standard error of a batch on well-formed words."""
+    try:
+        pieces = data.split(b'\x0c')
+        if len(pieces) > 4096:
+            raise Fault(15, 0, len(pieces))
+        readings = [reading(piece) for piece in pieces]
+        vertices = sum(read.n for read in readings if isinstance(read, Graph))
+        if vertices > 4194304:
+            raise Fault(16, 0, vertices)
+        asked = Asked(words)
+        return 0, b''.join(job_text(number, read, asked) for number, read in enumerate(readings)), b''
     except Fault as fault:
         return 3, b'', fault.line().encode()

@@ -387,14 +387,22 @@ fn the_program_writes_the_worked_component_trees(rt: HostRuntime) -> Result<(), 
 /// The component trees of a side, and their word.
 const SIDES: [(&str, PlainSide); 2] = [("mintree", PlainSide::Min), ("maxtree", PlainSide::Max)];
 
-/// The samples of a mixed picture of 2 to 4 columns and 1 to 4 rows, so few that many are equal.
-fn mixed_samples(alloc: Global, width: usize, seed: u32) -> Result<Vec<u64>, AllocError> {
-    let rows = 1 + (seed as usize / 3) % 4;
-    let mut samples = Vec::new(alloc);
-    let mut state = next(seed);
-    for _ in 0..width * rows {
+/// Appends a row of mixed samples, so few that many are equal, and gives the state for the next row.
+fn push_mixed_row(samples: &mut Vec<u64>, width: usize, state: u32) -> Result<u32, AllocError> {
+    let mut state = state;
+    for _ in 0..width {
         samples.push(u64::from((state >> 24) % 5))?;
         state = next(state);
+    }
+    Ok(state)
+}
+
+/// The samples of a mixed picture of so many columns and 1 to 4 rows.
+fn mixed_samples(alloc: Global, width: usize, seed: u32) -> Result<Vec<u64>, AllocError> {
+    let mut samples = Vec::new(alloc);
+    let mut state = next(seed);
+    for _ in 0..1 + seed / 3 % 4 {
+        state = push_mixed_row(&mut samples, width, state)?;
     }
     Ok(samples)
 }

@@ -31,8 +31,9 @@ import tempfile
 TOP = os.path.dirname(os.path.dirname(os.path.abspath(__file__)))
 PROGRAMS = {'higra': 'HIGRA', 'higra_batch': 'HIGRA_BATCH', 'higra_contours': 'HIGRA_CONTOURS'}
 PAGES = ['*.md', 'docs/*.md', 'docs/*.1', 'examples/*.md', 'recipes/*.md']
-# What may be missing, by the words that need it, and the command that tells whether it is there.
-TOOLS = {r'pnm\w+|pam\w+|pictures\.py': 'pnmtopng -version', 'parallel': 'parallel --version', r'networkx_edges\.py': 'python3 -c "import networkx"'}
+# What may be missing: the words of a command that needs it, and a command that shows whether it is there.
+TOOLS = {'Netpbm': (r'pnm\w+|pam\w+|pictures\.py', 'pnmtopng -version'), 'GNU parallel': ('parallel', 'parallel --version'),
+         'networkx': (r'networkx_edges\.py', 'python3 -c "import networkx"')}
 
 # A command, and what it is to show, or None where it is only to end with status 0.
 Example = collections.namedtuple('Example', 'command wanted')
@@ -56,7 +57,7 @@ def examples_of(path):
     """The commands of a document, in order."""
     for words, lines in blocks_of(path):
         if words == 'sh':
-            yield Example('set -e -o pipefail\n' + lines, None)
+            yield Example(lines, None)
         elif words == 'pycon':
             yield Example(f"PYTHONPATH=recipes python3 -m doctest /dev/stdin << 'END'\n{lines}END", None)
         elif words == 'text':
@@ -79,7 +80,7 @@ def build(program, words):
 
 def built_programs():
     """The programs that are there, by their names."""
-    found = {name: os.path.abspath(os.environ.get(variable, f'{TOP}/bin/{name}')) for name, variable in PROGRAMS.items()}
+    found = {name: os.path.abspath(os.environ.get(variable) or f'{TOP}/bin/{name}') for name, variable in PROGRAMS.items()}
     found = {name: program for name, program in found.items() if os.path.exists(program)}
     for name, program in found.items():
         build(program, ['--make', '1'] if name == 'higra_contours' else ['tree'])
@@ -105,7 +106,8 @@ def environment(folder):
 
 def fault_of(example, folder):
     """What is wrong with a command that is run in a copy of the repository, or nothing."""
-    ran = subprocess.run(['bash', '-c', example.command], cwd=folder, env=environment(folder), stdin=subprocess.DEVNULL,
+    words = ['-c'] if example.wanted is not None else ['-e', '-o', 'pipefail', '-c']
+    ran = subprocess.run(['bash', *words, example.command], cwd=folder, env=environment(folder), stdin=subprocess.DEVNULL,
                          stdout=subprocess.PIPE, stderr=subprocess.STDOUT, check=False)
     shown = ran.stdout.decode(errors='replace')
     if example.wanted is None:
@@ -117,10 +119,14 @@ def pixels(path):
     return subprocess.run(['pngtopnm', '-quiet', path], stdout=subprocess.PIPE, check=True).stdout
 
 
+def works(command):
+    return subprocess.run(['bash', '-c', command], env=environment(TOP), capture_output=True, check=False).returncode == 0
+
+
 def missing_in(examples):
     """What the commands of a page need and isn't there."""
-    needs = [tool for words, tool in TOOLS.items() if any(re.search(rf'\b({words})\b', it.command) for it in examples)]
-    return [tool for tool in needs if subprocess.run(['bash', '-c', tool], env=environment(TOP), capture_output=True, check=False).returncode]
+    return [tool for tool, (words, probe) in TOOLS.items()
+            if any(re.search(rf'\b({words})\b', it.command) for it in examples) and not works(probe)]
 
 
 def faults_of_commands(path, folder, programs):
@@ -129,7 +135,7 @@ def faults_of_commands(path, folder, programs):
     for example in examples_of(path):
         named = [name for name in absent if re.search(rf'\b{name}\b', example.command)]
         if named:
-            print(f'passed over: {path}: {example.command.strip()}: there is no {named[0]}')
+            print(f'passed over: {os.path.relpath(path, TOP)}: {example.command.strip()}: there is no {named[0]}')
         else:
             yield example.command, fault_of(example, folder)
 
@@ -148,7 +154,7 @@ def faults_of(path, programs, draw):
     """Runs a page in a copy of the repository."""
     missing = missing_in(list(examples_of(path)))
     if missing:
-        print(f'passed over: {path}: there is no {missing[0]}')
+        print(f'passed over: {os.path.relpath(path, TOP)}: there is no {missing[0]}')
         return
     with tempfile.TemporaryDirectory() as folder:
         copy_to(folder, programs)
@@ -168,7 +174,7 @@ def main():
         for name, fault in faults_of(path, programs, given.draw):
             counts['failed' if fault else 'passed'] += 1
             if fault:
-                print(f'{path}: {name}\n{fault}')
+                print(f'{os.path.relpath(path, TOP)}: {name.strip()}\n{fault.strip()}')
     print(f'{counts["passed"]} passed, {counts["failed"]} failed')
     sys.exit(1 if counts['failed'] else 0)
 

@@ -16,15 +16,20 @@ GAP = rb'(?:\s|#[^\r\n]*)+'
 HEADER = re.compile(rb'P5' + rb''.join(GAP + rb'(\d+)' for _ in range(3)) + rb'\s')
 
 
-def opened(tree, area):
-    """The grey of each pixel. A node has a greater number than its children."""
-    counts = [1] * tree.leaves + [0] * (len(tree.parents) - tree.leaves)
+def areas_of(tree):
+    """How many pixels each node has. Its number is greater than those of its children."""
+    areas = [1] * tree.leaves + [0] * (len(tree.parents) - tree.leaves)
     for node, parent in enumerate(tree.parents):
         if parent != node:
-            counts[parent] += counts[node]
-    levels = list(tree.altitudes)
+            areas[parent] += areas[node]
+    return areas
+
+
+def opened(tree, least):
+    """The grey of each pixel: the level of the lowest node above it that has at least so many pixels, or else of its root."""
+    areas, levels = areas_of(tree), list(tree.altitudes)
     for node in reversed(range(len(levels))):
-        if counts[node] < area:
+        if areas[node] < least:
             levels[node] = levels[tree.parents[node]]
     return levels[:tree.leaves]
 

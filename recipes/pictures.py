@@ -67,12 +67,14 @@ def means_by(labels, colours):
 
 def neighbours_of(rows):
     """For each label, the labels beside it."""
-    beside = collections.defaultdict(set)
-    for row, below in itertools.zip_longest(rows, rows[1:], fillvalue=()):
-        for one, other in itertools.chain(zip(row, row), zip(row, row[1:]), zip(row, below)):
+    beside = {label: set() for row in rows for label in row}
+    across = (pair for row in rows for pair in zip(row, row[1:]))
+    down = (pair for row, below in zip(rows, rows[1:]) for pair in zip(row, below))
+    for one, other in itertools.chain(across, down):
+        if one != other:
             beside[one].add(other)
             beside[other].add(one)
-    return {label: others - {label} for label, others in beside.items()}
+    return beside
 
 
 def in_turn(beside):

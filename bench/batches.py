@@ -1,10 +1,11 @@
 #!/usr/bin/env python3
 """Measures many small edge lists: in batches, and one run for each list.
 
-  batches.py [--program CMD] [--batch CMD] [--lists N] [--rounds N] [--inputs FOLDER]
+  batches.py [--program CMD] [--batch CMD] [--lists N] [--vertices N] [--edges N] [--rounds N] [--inputs FOLDER]
 
 --program, --batch  higra and higra_batch (default: the built programs of this repository, without the scripts in bin/)
 --lists             how many lists (default 4,000)
+--vertices, --edges how many each of them has (default 1,000 and 2,000); the edges are random
 --rounds            how often each way runs (default 3); every round runs each way once
 --inputs            a folder for the lists (default: one for temporary files)
 
@@ -25,18 +26,16 @@ import time
 TOP = os.path.dirname(os.path.dirname(os.path.abspath(__file__)))
 
 
-def small_list(chance):
-    """A random list of 5 to 40 vertices, as of a small molecule or a street or two."""
-    n = chance.randint(5, 40)
-    edges = [(chance.randrange(v), v) for v in range(1, n)] + [tuple(chance.sample(range(n), 2)) for _ in range(n // 4)]
-    lines = [f'{u} {v} {chance.randrange(1000)}\n' for u, v in edges]
-    return f'graph {n} {len(lines)}\n' + ''.join(lines)
+def random_list(chance, vertices, edges):
+    """A list of so many vertices and random edges between them."""
+    ends = [chance.sample(range(vertices), 2) for _ in range(edges)]
+    return f'graph {vertices} {edges}\n' + ''.join(f'{u} {v} {chance.randrange(1000)}\n' for u, v in ends)
 
 
-def write_lists(folder, count):
+def write_lists(folder, given):
     """Writes the lists and one batch of them all."""
     chance = random.Random(5)
-    lists = [small_list(chance) for _ in range(count)]
+    lists = [random_list(chance, given.vertices, given.edges) for _ in range(given.lists)]
     for number, text in enumerate(lists):
         with open(os.path.join(folder, f'{number:04}.graph'), 'w') as file:
             file.write(text)
@@ -80,7 +79,7 @@ def measure(given, folder):
     built = {crate: os.path.join(TOP, 'crates', crate, 'out', crate) for crate in ('higra_main', 'higra_batch')}
     found = ways(shlex.quote(os.path.abspath(given.program or built['higra_main'])),
                  shlex.quote(os.path.abspath(given.batch or built['higra_batch'])))
-    write_lists(folder, given.lists)
+    write_lists(folder, given)
     first, seconds = None, {name: [] for name in found}
     for _ in range(given.rounds):
         for name, (command, is_batch) in found.items():
@@ -99,6 +98,8 @@ def main():
     words.add_argument('--program')
     words.add_argument('--batch')
     words.add_argument('--lists', type=int, default=4000)
+    words.add_argument('--vertices', type=int, default=1000)
+    words.add_argument('--edges', type=int, default=2000)
     words.add_argument('--rounds', type=int, default=3)
     words.add_argument('--inputs')
     given = words.parse_args()

@@ -17,9 +17,9 @@ use Rattle.extinction.proofs.LevelZero.{level-zero}
 use Rattle.partition_tree.specs.Forest.{IsForest}
 use Rattle.partition_tree.proofs.TreeLemmas.{tree-forest}
 use Rattle.watershed_cut.specs.Watershed.{tree_label, watershed_of}
+use Rattle.watershed_cut.proofs.PlantedTrees.{watershed-is}
 use Rattle.higra_cli.specs.Reports.{graph_energies}
 use Rattle.higra_cli.specs.Running.{BeginsAtWatershed, IsHierarchy}
-use Rattle.higra_cli.proofs.WatershedLemmas.{watershed-is}
 
 -- the tree of a graph is a forest
 pub graph-forest : (g : WeightedGraph) → IsGraph g → IsForest (graph_tree g)

@@ -8,7 +8,6 @@ pub mod PlanningLemmas
 pub mod ReadingLemmas
 pub mod RunningLemmas
 pub mod SpelledLemmas
-pub mod WatershedLemmas
 pub mod SummaryLemmas
 pub mod HierarchyLemmas
 pub mod ComponentLemmas

@@ -7,8 +7,7 @@ use Rattle.component_tree.specs.declared.side.Side.{Side}
 use Rattle.energy_cut.specs.Cuts.{IsLeastCut}
 use Rattle.extinction.specs.Hierarchy.{hierarchy_of}
 use Rattle.extinction.specs.declared.kind.Kind.{Kind}
-use Rattle.hg_base.specs.Edges.{IsIn, Joined}
-use Rattle.hg_base.specs.Graph.{WeightedGraph, first_end, second_end}
+use Rattle.hg_base.specs.Graph.{WeightedGraph}
 use Rattle.hg_base.specs.Levels.{Shares}
 use Rattle.hg_base.specs.Outside.{Rose, AppendsPrefix}
 use Rattle.hg_base.specs.Rank.{ranked}
@@ -18,10 +17,7 @@ use Rattle.hg_base.specs.Saliencies.{saliency}
 use Rattle.hg_base.specs.declared.fault.InputFault.{InputFault}
 use Rattle.merge_board.specs.Seats.{ReceiptState}
 use Rattle.pgm_reader.specs.Generator.{made}
-use Rattle.watershed_cut.specs.Minima.{InMinimum}
-use Rattle.watershed_cut.specs.MinimumTests.{vertex_label}
-use Rattle.watershed_cut.specs.Rooted.{IsRooted, cost, planted}
-use Rattle.watershed_cut.specs.Watershed.{WatershedCut, watershed_of}
+use Rattle.watershed_cut.specs.Watershed.{IsWatershed, watershed_of}
 use Rattle.higra_cli.specs.Command.{requested}
 use Rattle.higra_cli.specs.Inputs.{graph_of, input_for}
 use Rattle.higra_cli.specs.Reading.{Told, GaveInput, StopsReading}
@@ -34,7 +30,6 @@ use Rattle.higra_cli.specs.declared.request.Request.{Request}
 use Rattle.higra_cli.specs.declared.request.Form.{Form}
 use Rattle.higra_cli.specs.declared.request.Form.TheVariants as forms
 use Rattle.higra_cli.specs.declared.request.Report.{Report}
-use Rattle.higra_cli.specs.declared.request.Report.TheVariants as reports
 use Rattle.higra_cli.specs.declared.ending.Status.{Status}
 use Rattle.higra_cli.specs.declared.ending.Status.TheVariants as statuses
 
@@ -112,16 +107,6 @@ IsFor request left status = (bytes : List ℕ) → AreBytesOf request.made left 
 abbrev pub IsAnswerTo : Request → List ℕ → Status → Type 0
 IsAnswerTo request bytes status =
     (status ≡ answer_of request bytes) ⊎ ((status ≡ statuses.OutOfMemory) ⊎ ((status ≡ statuses.WriteFailed) × IsSuccess (answer_of request bytes)))
-
--- The forest is rooted in the minima, and no list of edges that is rooted so weighs less. The forest and the minimum edges
--- join each vertex to the minimum whose label it has, and to no other. The cut holds exactly the edges whose ends they don't join.
-pub record IsWatershed (g : WeightedGraph) (w : WatershedCut) : Type 0 where
-  pub rooted : IsRooted g w.forest
-  pub least : (f : List ℕ) → IsRooted g f → cost g w.forest ≤ cost g f
-  pub one_label_each : length w.labels.labels ≡ g.n
-  pub reach : (x : ℕ) → x < g.n → (y : ℕ) × (InMinimum g.n (ranked g) y × Joined (planted g w.forest) x y)
-  pub label : (x y : ℕ) → x < g.n → InMinimum g.n (ranked g) y → Joined (planted g w.forest) x y → get_or w.labels.labels x 0 ≡ vertex_label g.n (ranked g) y
-  pub cut : (e : ℕ) → IsIn e w.cut ↔ ((e < length g.edges) × (¬ Joined (planted g w.forest) (first_end g e) (second_end g e)))
 
 -- Two vertices share a node of altitude 0 of the hierarchical watershed exactly where the watershed cut gives them one label.
 abbrev pub BeginsAtWatershed : WeightedGraph → ParentTree → Type 0

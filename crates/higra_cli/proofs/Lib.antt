@@ -1,3 +1,4 @@
+pub mod AltitudeLemmas
 pub mod CommandLemmas
 pub mod DrawingLemmas
 pub mod LineLemmas

@@ -1,3 +1,4 @@
+pub mod Altitudes
 pub mod Command
 pub mod Ending
 pub mod Feeding

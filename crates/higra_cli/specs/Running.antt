@@ -18,6 +18,7 @@ use Rattle.hg_base.specs.declared.fault.InputFault.{InputFault}
 use Rattle.merge_board.specs.Seats.{ReceiptState}
 use Rattle.pgm_reader.specs.Generator.{made}
 use Rattle.watershed_cut.specs.Watershed.{IsWatershed, watershed_of}
+use Rattle.higra_cli.specs.Altitudes.{HasAltitudes}
 use Rattle.higra_cli.specs.Command.{requested}
 use Rattle.higra_cli.specs.Inputs.{graph_of, input_for}
 use Rattle.higra_cli.specs.Reading.{Told, GaveInput, StopsReading}
@@ -113,10 +114,12 @@ abbrev pub BeginsAtWatershed : WeightedGraph → ParentTree → Type 0
 BeginsAtWatershed g tree =
     (x y : ℕ) → x < g.n → y < g.n → (Shares tree 0 x y ↔ (get_or (watershed_of g).labels.labels x 0 ≡ get_or (watershed_of g).labels.labels y 0))
 
--- the nodes of a graph's tree are the components of its fronts, each once, the saliency of each edge is the least weight
--- that joins its ends, the watershed cut is one, each hierarchical watershed begins at it, and each least cut is one
+-- the nodes of a graph's tree are the components of its fronts, each once, and have the altitudes of these, the saliency
+-- of each edge is the least weight that joins its ends, the watershed cut is one, each hierarchical watershed begins at it,
+-- and each least cut is one
 pub record IsHierarchy (g : WeightedGraph) : Type 0 where
   pub nodes : IsFrontTree (graph_tree g) g.n (ranked g)
+  pub altitudes : HasAltitudes (graph_tree g) (ranked g)
   pub saliencies : (e : ℕ) → e < length g.edges → IsSaliency g e (saliency g e)
   pub watershed : IsWatershed g (watershed_of g)
   pub hierarchies : (kind : Kind) → BeginsAtWatershed g (hierarchy_of g kind)

@@ -5,6 +5,7 @@ pub mod LineLemmas
 pub mod MergingLemmas
 pub mod NumberLemmas
 pub mod OrderedLemmas
+pub mod PictureFaults
 pub mod PlanningLemmas
 pub mod ReadingLemmas
 pub mod RunningLemmas
@@ -12,5 +13,6 @@ pub mod SpelledLemmas
 pub mod SummaryLemmas
 pub mod HierarchyLemmas
 pub mod ComponentLemmas
+pub mod EdgeListFaults
 pub mod EnergyLemmas
 pub mod CutLemmas

@@ -21,7 +21,7 @@ use Rattle.watershed_cut.specs.Watershed.{IsWatershed, watershed_of}
 use Rattle.higra_cli.specs.Altitudes.{HasAltitudes}
 use Rattle.higra_cli.specs.Command.{requested}
 use Rattle.higra_cli.specs.Inputs.{graph_of, input_for}
-use Rattle.higra_cli.specs.Reading.{Told, GaveInput, StopsReading}
+use Rattle.higra_cli.specs.Reading.{Told, GaveBy, GaveInput, StopsReading}
 use Rattle.higra_cli.specs.Reports.{component_side, graph_energies, graph_energy_cut, picture_components, receipt_of, refusal, report_of}
 use Rattle.higra_cli.specs.Request.{can_be_drawn}
 use Rattle.higra_cli.specs.declared.input.Input.{Input}
@@ -172,6 +172,15 @@ EndsWriting request input out out' (Err statuses.ReadFailed) = ⊥
 abbrev pub HasStatus : List (List ℕ) → Option (List ℕ) → Status → Type 0
 HasStatus words left status = (request : Request) × ((requested words ≡ Some request) × IsFor request left status)
 
+-- how much was taken of the source of a request whose input has this fault: nothing where a picture is made
+abbrev pub TookBy : Option Made → InputFault → Option (List ℕ) → Option (List ℕ) → Type 0
+TookBy (Some m) fault old new = new ≡ old
+TookBy None fault old new = GaveBy fault old new
+
+-- the words gave a request, and this much was taken of its source
+abbrev pub HasTaken : List (List ℕ) → Option (List ℕ) → Option (List ℕ) → InputFault → Type 0
+HasTaken words old new fault = (request : Request) × ((requested words ≡ Some request) × TookBy request.made fault old new)
+
 -- how a run on these words left its source and its sink, by its status
 abbrev pub Ends : List (List ℕ) → Told → Told → Told → Told → Status → Type 0
 Ends words source source' out out' (statuses.Success receipt) =
@@ -179,7 +188,7 @@ Ends words source source' out out' (statuses.Success receipt) =
 Ends words source source' out out' statuses.Usage =
     (requested words ≡ None) × (source'.faults ≡ source.faults) × (out'.faults ≡ out.faults)
 Ends words source source' out out' (statuses.Input fault) =
-    HasStatus words source.bytes (statuses.Input fault) × (source'.faults ≡ source.faults) × (out'.faults ≡ out.faults)
+    HasStatus words source.bytes (statuses.Input fault) × HasTaken words source.bytes source'.bytes fault × (source'.faults ≡ source.faults) × (out'.faults ≡ out.faults)
 Ends words source source' out out' statuses.ReadFailed =
     HasRequest words × Rose source.faults source'.faults × (out'.faults ≡ out.faults)
 Ends words source source' out out' statuses.WriteFailed =

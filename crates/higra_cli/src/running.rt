@@ -61,8 +61,7 @@ pub fn run<S: Source, K: Sink, E: Sink, G: Gate>(
     ensures complete { (request : Request) (bytes : List ℕ) → requested words.now ≡ Some request → AreBytesOf request.made (S.left source.old) bytes → StoodStill (S.faults source.old) (S.faults source.new) → IsAnswerTo request bytes result }
 
     // The report.
-    ensures success { (receipt : ReceiptState) → result ≡ Status.Success receipt → Reports words.now (S.left source.old) (S.left source.new) (Appends (K.content out.old) (K.content out.new)) }
-    ensures receipt { (receipt : ReceiptState) → result ≡ Status.Success receipt → ReportsWith words.now (S.left source.old) (S.left source.new) (Appends (K.content out.old) (K.content out.new)) receipt }
+    ensures success { (receipt : ReceiptState) → result ≡ Status.Success receipt → ReportsWith words.now (S.left source.old) (S.left source.new) (Appends (K.content out.old) (K.content out.new)) receipt }
     ensures begun { result ≡ Status.WriteFailed → Reports words.now (S.left source.old) (S.left source.new) (AppendsPrefix (K.content out.old) (K.content out.new)) }
 
     // The sink of the report.

@@ -5,8 +5,8 @@ use Rattle.higra_cli.specs.Reading.{told}
 use Rattle.higra_cli.specs.declared.ending.Status.TheVariants.{Success}
 use Rattle.higra_cli.proofs.running.run.Goals as goal
 
-pub returns-in-Ok-clause-receipt : goal.returns-in-Ok-clause-receipt
-returns-in-Ok-clause-receipt g c receipt is = with_receipt _ _ _ _ c.in-Ok.receipt receipt is c.in-Ok.ensures.ends.1
+pub returns-in-Ok-clause-success : goal.returns-in-Ok-clause-success
+returns-in-Ok-clause-success g c receipt is = with_receipt _ _ _ _ c.in-Ok.receipt receipt is c.in-Ok.ensures.ends.1
 
 pub returns-in-Ok-clause-too_long : goal.returns-in-Ok-clause-too_long
 returns-in-Ok-clause-too_long g c had bytes is much still =

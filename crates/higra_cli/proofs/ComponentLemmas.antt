@@ -1,5 +1,5 @@
 -- Reports that are component trees, and those that are not.
-use Rattle.std.proofs.Common.{◌≡◌, ℕ, ◌*◌, List, length, map, Option, Some, None, Result, Ok, Err, refl, sym, ap, ◌∙◌, subst}
+use Rattle.std.proofs.Common.{◌≡◌, ℕ, ◌*◌, List, length, Option, Some, None, refl, sym, ap, ◌∙◌, subst}
 use Rattle.std.specs.Prelude.{is_some, if◌then◌else◌}
 use Rattle.std.proofs.lemmas.List.{length-map}
 use Rattle.component_tree.specs.Report.{components_report}
@@ -8,18 +8,16 @@ use Rattle.component_tree.specs.declared.side.Side.{Side}
 use Rattle.hg_base.specs.Graph.{WeightedGraph}
 use Rattle.hg_base.specs.declared.fault.InputFault.{InputFault}
 use Rattle.hg_base.specs.declared.fault.FaultKind.TheVariants.{NotAPicture}
-use Rattle.merge_board.specs.Seats.{ReceiptState}
 use Rattle.pgm_reader.specs.Raster.{Raster}
 use Rattle.tile_plan.specs.Plan.{tile_count}
 use Rattle.higra_cli.specs.Inputs.{graph_of}
-use Rattle.higra_cli.specs.Reports.{IsReportIn, component_side, picture_components, picture_fault, plan_of, refusal_in, report_in, text_by, text_of, tile_fault}
+use Rattle.higra_cli.specs.Reports.{component_side, picture_components, picture_fault, plan_of, refusal_in, report_in, text_by, text_of, tile_fault}
 use Rattle.higra_cli.specs.Running.{HasComponents, HasComponentsOf}
 use Rattle.higra_cli.proofs.PlanningLemmas.{before_none, before_some}
 use Rattle.higra_cli.specs.declared.input.Input.{Input}
 use Rattle.higra_cli.specs.declared.input.Input.TheVariants.{Edges, Picture}
 use Rattle.higra_cli.specs.declared.request.Form.TheVariants.{Text}
 use Rattle.higra_cli.specs.declared.request.Report.{Report}
-use Rattle.higra_cli.specs.declared.writing.RunFault.{RunFault}
 
 -- a report that is no component tree has none
 pub no_components : (report : Report) (input : Input) → component_side report ≡ None → HasComponents (component_side report) input

@@ -3,7 +3,6 @@ use Rattle.std.proofs.Common.{◌≡◌, ℕ, Option, Some, None, refl, ap, sym,
 use Rattle.extinction.specs.Hierarchy.{hierarchy_of}
 use Rattle.extinction.specs.declared.kind.Kind.{Kind}
 use Rattle.hg_base.specs.Graph.{WeightedGraph}
-use Rattle.hg_base.specs.Labels.{Labelling}
 use Rattle.hg_base.specs.Tree.{ParentTree, graph_tree}
 use Rattle.hg_base.specs.Zones.{zones_of}
 use Rattle.higra_cli.specs.Ordered.{IsTreeOf}

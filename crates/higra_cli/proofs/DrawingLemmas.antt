@@ -11,7 +11,6 @@ use Rattle.hg_base.specs.Rank.{ranked}
 use Rattle.hg_base.specs.Tree.{graph_tree}
 use Rattle.hg_base.specs.declared.fault.InputFault.{InputFault}
 use Rattle.hg_base.specs.declared.fault.FaultKind.TheVariants.{TooManyLabels}
-use Rattle.label_writer.specs.Report.{labels_picture}
 use Rattle.pgm_reader.specs.Raster.{Raster}
 use Rattle.tile_plan.specs.Plan.{tile_count}
 use Rattle.watershed_cut.specs.Watershed.{tree_label, watershed_of}

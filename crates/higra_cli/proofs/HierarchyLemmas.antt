@@ -1,5 +1,5 @@
--- What the definitions come to for every graph: the tree, the saliencies, the watershed cut, the hierarchical watersheds
--- and the least cuts.
+-- What the definitions come to for every graph: the tree and its altitudes, the saliencies, the watershed cut, the
+-- hierarchical watersheds and the least cuts.
 use Rattle.std.proofs.Common.{◌≡◌, ℕ, ◌<◌, sym, ◌∙◌, arith}
 use Rattle.std.specs.Prelude.{◌↔◌, get_or, IfOk, Result, Ok, Err}
 use Rattle.std.proofs.lemmas.List.FromFn.{get_or-map-range_with_len}
@@ -17,9 +17,10 @@ use Rattle.extinction.proofs.LevelZero.{level-zero}
 use Rattle.partition_tree.specs.Forest.{IsForest}
 use Rattle.partition_tree.proofs.TreeLemmas.{tree-forest}
 use Rattle.watershed_cut.specs.Watershed.{tree_label, watershed_of}
+use Rattle.watershed_cut.proofs.PlantedTrees.{watershed-is}
 use Rattle.higra_cli.specs.Reports.{graph_energies}
 use Rattle.higra_cli.specs.Running.{BeginsAtWatershed, IsHierarchy}
-use Rattle.higra_cli.proofs.WatershedLemmas.{watershed-is}
+use Rattle.higra_cli.proofs.AltitudeLemmas.{altitudes-are}
 
 -- the tree of a graph is a forest
 pub graph-forest : (g : WeightedGraph) → IsGraph g → IsForest (graph_tree g)
@@ -39,6 +40,7 @@ begins-at g is kind x y hx hy =
 pub hierarchy-is : (g : WeightedGraph) → IsGraph g → IsHierarchy g
 hierarchy-is g is = record {
   nodes = front-tree g.n (ranked g) (AreApart-ranked g) (AreWithin-ranked g is);
+  altitudes = altitudes-are g.n (ranked g) (AreApart-ranked g) (AreWithin-ranked g is);
   saliencies = λ e h. saliency-is g e h;
   watershed = watershed-is g is;
   hierarchies = begins-at g is;

@@ -1,14 +1,15 @@
 -- What the bytes that a source gave say of the bytes that it had.
-use Rattle.std.proofs.Common.{◌≡◌, ℕ, ◌+◌, ◌-◌, ◌<◌, ◌≤◌, Bool, List, [], ◌∷◌, ◌++◌, length, take, drop, Option, Some, None, Result, Ok, Err, refl, sym, ap, ◌∙◌, subst, arith, append-nil, append_assoc, length-append}
+use Rattle.std.proofs.Common.{◌≡◌, ℕ, ◌+◌, ◌-◌, ◌<◌, ◌≤◌, Bool, List, [], ◌∷◌, ◌++◌, length, take, drop, Option, Some, None, Result, Ok, Err, inl, inr, refl, sym, ap, ◌∙◌, subst, arith, append-nil, append_assoc, length-append}
 use Rattle.std.proofs.lemmas.Grind.{common_steps}
 use Rattle.std.proofs.lemmas.List.{length-take-le, length-drop, take-append-le}
 use Rattle.std.proofs.Math.Seq.{take-append-add}
 use borrow.Rule.Slice.PartMut.{put_mid, post_of, same_len_mid}
-use Rattle.std.proofs.KnownBytes.{Consumes-trans}
+use Rattle.std.proofs.KnownBytes.{Consumes-nil, Consumes-trans}
 use Rattle.std.specs.Io.KnownBytes.{Consumes, IsAtEnd}
 use Rattle.hg_base.specs.Outside.{Rose}
 use Rattle.hg_base.specs.declared.fault.InputFault.{InputFault}
 use Rattle.pgm_reader.specs.Pgm.{is_picture}
+use Rattle.higra_cli.proofs.PictureFaults.{input-other}
 use Rattle.higra_cli.specs.Feeding.{EndsDecoding, GaveToOneMore, HasBegun, HasFed, HasFedAll, HasRead, ReadsOn, StopsFeeding, reads_picture, taken}
 use Rattle.higra_cli.specs.Inputs.{input_of, read_as, read_of, too_long}
 use Rattle.higra_cli.specs.Reading.{Told, AreRead, EndsReading, GaveAll, GaveAtMost, GaveTooMuch, StopsReading}
@@ -50,6 +51,17 @@ gave_some (Some xs) None bytes all gave is = absurd gave
 gave_some (Some xs) (Some ys) bytes all gave is =
     let same : all ≡ bytes ++ ys = cc in
     omega (arith, ap length same, length-append bytes ys)
+
+-- a source that tells its bytes gave one number of them
+pub gave_once : (old new : Option (List ℕ)) (had a b : List ℕ) → old ≡ Some had → Consumes old new a → Consumes old new b → length a ≡ length b
+gave_once None new had a b is first second = cc
+gave_once (Some xs) None had a b is first second = absurd first
+gave_once (Some xs) (Some ys) had a b is first second =
+    omega (arith, ap length (sym first ∙ second), length-append a ys, length-append b ys)
+
+-- and none where it is untouched
+pub gave_nothing : (old new : Option (List ℕ)) (had a : List ℕ) → old ≡ Some had → new ≡ old → Consumes old new a → length a ≡ 0
+gave_nothing old new had a is same gave = gave_once old new had a [] is gave (subst (λ (o : Option (List ℕ)). Consumes old o []) (sym same) (Consumes-nil old))
 
 -- what the bytes of a source give that was read to its end
 pub AreRead-all : (old new : Option (List ℕ)) (bytes : List ℕ) (read : Result Input InputFault) → GaveAll old new bytes → input_of bytes ≡ read → AreRead old read
@@ -122,7 +134,7 @@ StopsReading-fed old middle new first before (statuses.Input fault) begun fed st
       gave = Consumes-trans old.bytes middle.bytes new.bytes first more.0 begun.gave more.1.0;
       long = length-append first more.0 ∙ ap (λ n. n + length more.0) (sym fed) ∙ more.1.1;
     } in
-    (stopped.1.0 ∙ begun.quiet, subst (λ (f : InputFault). AreRead old.bytes (Err f)) (sym stopped.0) (AreRead-long old.bytes new.bytes (first ++ more.0) much))
+    (stopped.1.0 ∙ begun.quiet, subst (λ (f : InputFault). AreRead old.bytes (Err f)) (sym stopped.0) (AreRead-long old.bytes new.bytes (first ++ more.0) much), inl (stopped.0, (first ++ more.0, much)))
 StopsReading-fed old middle new first before statuses.ReadFailed begun fed stopped = subst (λ (n : ℕ). Rose n new.faults) begun.quiet stopped
 StopsReading-fed old middle new first before statuses.OutOfMemory begun fed stopped = tt
 StopsReading-fed old middle new first before (statuses.Success receipt) begun fed stopped = absurd stopped
@@ -132,7 +144,7 @@ StopsReading-fed old middle new first before statuses.WriteFailed begun fed stop
 -- what was decoded of all that was read ended the reading
 EndsReading-all : (old new : Told) (bytes : List ℕ) (result : Result Input Status) → new.faults ≡ old.faults → GaveAll old.bytes new.bytes bytes → EndsDecoding (input_of bytes) result → EndsReading old new result
 EndsReading-all old new bytes (Ok input) quiet all read = (quiet, (bytes, (all, read)))
-EndsReading-all old new bytes (Err (statuses.Input fault)) quiet all read = (quiet, AreRead-all old.bytes new.bytes bytes (Err fault) all read)
+EndsReading-all old new bytes (Err (statuses.Input fault)) quiet all read = (quiet, AreRead-all old.bytes new.bytes bytes (Err fault) all read, inr (input-other bytes fault read, (bytes, all)))
 EndsReading-all old new bytes (Err statuses.OutOfMemory) quiet all read = tt
 EndsReading-all old new bytes (Err (statuses.Success receipt)) quiet all read = absurd read
 EndsReading-all old new bytes (Err statuses.Usage) quiet all read = absurd read

@@ -1,15 +1,17 @@
 -- What the ends of a run come to.
-use Rattle.std.proofs.Common.{◌≡◌, ◌≢◌, inl, inr, ℕ, ◌≤◌, List, length, take_all, Option, Some, None, Result, Ok, Err, OnOk, OnErr, refl, sym, ap, ◌∙◌, subst, arith}
+use Rattle.std.proofs.Common.{◌≡◌, ◌≢◌, inl, inr, ℕ, ◌≤◌, List, length, take_all, ◌⊎◌, Option, Some, None, Result, Ok, Err, OnOk, OnErr, refl, sym, ap, ◌∙◌, subst, arith}
 use Rattle.std.specs.Io.KnownBytes.{Appends}
 use Rattle.hg_base.specs.Outside.{AppendsPrefix, Rose}
+use Rattle.hg_base.specs.declared.fault.FaultKind.TheVariants.{TooLong}
 use Rattle.hg_base.specs.declared.fault.InputFault.{InputFault}
 use Rattle.merge_board.specs.Seats.{ReceiptState}
-use Rattle.higra_cli.proofs.ReadingLemmas.{AreRead-all}
+use Rattle.higra_cli.proofs.PictureFaults.{refusal-other}
+use Rattle.higra_cli.proofs.ReadingLemmas.{AreRead-all, gave_nothing, gave_once}
 use Rattle.higra_cli.specs.Command.{requested}
-use Rattle.higra_cli.specs.Inputs.{graph_of, input_for}
-use Rattle.higra_cli.specs.Reading.{Told}
+use Rattle.higra_cli.specs.Inputs.{graph_of, input_for, too_long}
+use Rattle.higra_cli.specs.Reading.{GaveTooMuch, Told}
 use Rattle.higra_cli.specs.Reports.{component_side, receipt_of, refusal, report_of}
-use Rattle.higra_cli.specs.Running.{AreBytesOf, Ends, EndsWork, EndsWriting, GotInput, HasComponents, HasStatus, IsAnswerTo, IsFor, IsHierarchy, Reports, ReportsWith, StoodStill, StopsGetting, Writes, answer_of, status_by, status_for}
+use Rattle.higra_cli.specs.Running.{AreBytesOf, Ends, EndsWork, EndsWriting, GotInput, HasComponents, HasStatus, IsAnswerTo, IsFor, IsHierarchy, Reports, ReportsWith, StoodStill, StopsGetting, TookBy, Writes, answer_of, status_by, status_for}
 use Rattle.higra_cli.specs.declared.input.Input.{Input}
 use Rattle.higra_cli.specs.declared.request.Made.{Made}
 use Rattle.higra_cli.specs.declared.request.Request.{Request}
@@ -45,10 +47,22 @@ IsFor-stopped request None old new fault is stopped bytes are =
     let none : AreBytesOf None old.bytes bytes = subst (λ (o : Option Made). AreBytesOf o old.bytes bytes) is are in
     ap (λ (o : Option Made). status_for request (input_for o bytes)) is ∙ ap (status_for request) (stopped.1 bytes none)
 
+-- so much was taken for a fault of what was read
+TookBy-stopped : (m : Option Made) (old new : Told) (fault : InputFault) → StopsGetting m old new (statuses.Input fault) → TookBy m fault old.bytes new.bytes
+TookBy-stopped (Some m) old new fault stopped = cc
+TookBy-stopped None old new fault stopped = stopped.2
+
+-- and for one of an input that was got
+TookBy-got : (m : Option Made) (old new : Option (List ℕ)) (input : Input) (fault : InputFault) → GotInput m old new input → fault.kind ≢ TooLong → TookBy m fault old new
+TookBy-got (Some m) old new input fault got other = got.0
+TookBy-got None old new input fault got other = inr (other, (got.0, got.1.0))
+
 -- what ended the getting of the input ends the run
 Ends-by : (words : List (List ℕ)) (request : Request) (m : Option Made) (old new out : Told) (status : Status) → requested words ≡ Some request → request.made ≡ m → StopsGetting m old new status → Ends words old new out out status
 Ends-by words request (Some m) old new out status asked is stopped = subst (λ (s : Status). Ends words old new out out s) (sym stopped) refl
-Ends-by words request None old new out (statuses.Input fault) asked is stopped = ((request, (asked, IsFor-stopped request None old new fault is stopped)), stopped.0, refl)
+Ends-by words request None old new out (statuses.Input fault) asked is stopped =
+    let took : TookBy request.made fault old.bytes new.bytes = subst (λ (m : Option Made). TookBy m fault old.bytes new.bytes) (sym is) (TookBy-stopped None old new fault stopped) in
+    ((request, (asked, IsFor-stopped request None old new fault is stopped)), (request, (asked, took)), stopped.0, refl)
 Ends-by words request None old new out statuses.ReadFailed asked is stopped = ((request, asked), stopped, refl)
 Ends-by words request None old new out statuses.OutOfMemory asked is stopped = refl
 Ends-by words request None old new out (statuses.Success receipt) asked is stopped = absurd stopped
@@ -94,7 +108,7 @@ Ends-written words request input old new out out' (Ok receipt) asked quiet got e
 Ends-written words request input old new out out' (Err statuses.WriteFailed) asked quiet got ends =
     ((receipt_of request input, HasStatus-success words request input old.bytes new.bytes asked got ends.0.accepted), Reports-done words request input old.bytes new.bytes (AppendsPrefix out.bytes out'.bytes) asked got ends.0, quiet, ends.1)
 Ends-written words request input old new out out' (Err (statuses.Input fault)) asked quiet got ends =
-    ((request, (asked, subst (λ (o : Option InputFault). IsFor request old.bytes (status_by (receipt_of request input) o)) ends.0 (IsFor-got request old.bytes new.bytes input got))), quiet, ends.1)
+    ((request, (asked, subst (λ (o : Option InputFault). IsFor request old.bytes (status_by (receipt_of request input) o)) ends.0 (IsFor-got request old.bytes new.bytes input got))), (request, (asked, TookBy-got request.made old.bytes new.bytes input fault got (refusal-other request input fault ends.0))), quiet, ends.1)
 Ends-written words request input old new out out' (Err statuses.OutOfMemory) asked quiet got ends = ends
 Ends-written words request input old new out out' (Err (statuses.Success receipt)) asked quiet got ends = absurd ends
 Ends-written words request input old new out out' (Err statuses.Usage) asked quiet got ends = absurd ends
@@ -127,6 +141,11 @@ status-is words left status request bytes has asked are =
     let same : has.0 ≡ request = one_request words has.0 request has.1.0 asked in
     sym (subst (λ (r : Request). IsFor r left status) same has.1.1 bytes are)
 
+-- a count that stood still didn't rise
+risen : (before after : ℕ) → StoodStill before after → Rose before after → ⊥
+risen before after still (inl rose) = omega (arith, still.same)
+risen before after still (inr ended) = omega (arith, still.below, ended.0)
+
 -- where no read fails, the status is that one, unless memory ran out or the report wasn't written
 pub complete_from : (words : List (List ℕ)) (request : Request) (bytes : List ℕ) (old new out out' : Told) (status : Status) → Ends words old new out out' status → requested words ≡ Some request
     → AreBytesOf request.made old.bytes bytes → StoodStill old.faults new.faults → IsAnswerTo request bytes status
@@ -136,7 +155,25 @@ complete_from words request bytes old new out out' statuses.WriteFailed ends ask
 complete_from words request bytes old new out out' statuses.OutOfMemory ends asked are still = inr (inl refl)
 complete_from words request bytes old new out out' statuses.Usage ends asked are still = cc
 complete_from words request bytes old new out out' statuses.ReadFailed ends asked are still = absurd (risen old.faults new.faults still ends.1)
-  where
-    risen : (before after : ℕ) → StoodStill before after → Rose before after → ⊥
-    risen before after still (inl rose) = omega (arith, still.same)
-    risen before after still (inr ended) = omega (arith, still.below, ended.0)
+
+-- a source that gave one byte more than an input may have gave no input
+got_short : (m : Option Made) (old new : Option (List ℕ)) (input : Input) (had bytes : List ℕ) → GotInput m old new input → old ≡ Some had → GaveTooMuch old new bytes → ⊥
+got_short (Some m) old new input had bytes got is much = omega (arith, gave_nothing old new had bytes is got.0 much.gave, much.long)
+got_short None old new input had bytes got is much = omega (arith, gave_once old new had bytes got.0 is much.gave got.1.0.gave, much.long, got.1.0.short)
+
+-- the fault for which it gave so much is that
+took_long : (m : Option Made) (old new : Option (List ℕ)) (fault : InputFault) (had bytes : List ℕ) → TookBy m fault old new → old ≡ Some had → GaveTooMuch old new bytes → fault ≡ too_long
+took_long (Some m) old new fault had bytes took is much = absurd (omega (arith, gave_nothing old new had bytes is took much.gave, much.long))
+took_long None old new fault had bytes (inl long) is much = long.0
+took_long None old new fault had bytes (inr all) is much = absurd (omega (arith, gave_once old new had bytes all.1.0 is much.gave all.1.1.gave, much.long, all.1.1.short))
+
+-- where a source that tells its bytes gave one more than an input may have, and no read failed, the input is too long, or memory ran out
+pub too_long_from : (words : List (List ℕ)) (had bytes : List ℕ) (old new out out' : Told) (status : Status) → Ends words old new out out' status → (status ≡ statuses.Usage → new.bytes ≡ old.bytes)
+    → old.bytes ≡ Some had → GaveTooMuch old.bytes new.bytes bytes → StoodStill old.faults new.faults → (status ≡ statuses.Input too_long) ⊎ (status ≡ statuses.OutOfMemory)
+too_long_from words had bytes old new out out' (statuses.Success receipt) ends unread is much still = absurd (got_short ends.1.0.request.made old.bytes new.bytes ends.1.0.input had bytes ends.1.0.got is much)
+too_long_from words had bytes old new out out' (statuses.Input fault) ends unread is much still =
+    inl (ap (λ (f : InputFault). statuses.Input f) (took_long ends.1.0.made old.bytes new.bytes fault had bytes ends.1.1.1 is much))
+too_long_from words had bytes old new out out' statuses.WriteFailed ends unread is much still = absurd (got_short ends.1.request.made old.bytes new.bytes ends.1.input had bytes ends.1.got is much)
+too_long_from words had bytes old new out out' statuses.OutOfMemory ends unread is much still = inr refl
+too_long_from words had bytes old new out out' statuses.Usage ends unread is much still = absurd (omega (arith, gave_nothing old.bytes new.bytes had bytes is (unread refl) much.gave, much.long))
+too_long_from words had bytes old new out out' statuses.ReadFailed ends unread is much still = absurd (risen old.faults new.faults still ends.1)

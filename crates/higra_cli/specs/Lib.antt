@@ -1,5 +1,7 @@
+pub mod Altitudes
 pub mod Command
 pub mod Ending
+pub mod Exiting
 pub mod Feeding
 pub mod Given
 pub mod Inputs

@@ -1,9 +1,10 @@
 -- What a run reads of its source.
-use Rattle.std.specs.Prelude.{◌≡◌, ℕ, ◌≤◌, List, length, Option, Some, Result, Ok, Err, MatchResult}
+use Rattle.std.specs.Prelude.{◌≡◌, ◌≢◌, ◌⊎◌, ℕ, ◌≤◌, List, length, Option, Some, Result, Ok, Err, MatchResult}
 use Rattle.std.specs.Io.KnownBytes.{Consumes, IsAtEnd}
 use Rattle.hg_base.specs.Outside.{Rose}
+use Rattle.hg_base.specs.declared.fault.FaultKind.TheVariants.{TooLong}
 use Rattle.hg_base.specs.declared.fault.InputFault.{InputFault}
-use Rattle.higra_cli.specs.Inputs.{input_of, read_of}
+use Rattle.higra_cli.specs.Inputs.{input_of, read_of, too_long}
 use Rattle.higra_cli.specs.declared.ending.Status.{Status}
 use Rattle.higra_cli.specs.declared.ending.Status.TheVariants as statuses
 use Rattle.higra_cli.specs.declared.input.Input.{Input}
@@ -39,9 +40,15 @@ pub record GaveTooMuch (old new : Option (List ℕ)) (bytes : List ℕ) : Type 0
   pub gave : Consumes old new bytes
   pub long : length bytes ≡ 134217729
 
+-- how much a source gave whose input has this fault: one byte more than an input may have where it is too long, and all
+-- that it had where it has another fault
+abbrev pub GaveBy : InputFault → Option (List ℕ) → Option (List ℕ) → Type 0
+GaveBy fault old new =
+    ((fault ≡ too_long) × ((bytes : List ℕ) × GaveTooMuch old new bytes)) ⊎ ((fault.kind ≢ TooLong) × ((bytes : List ℕ) × GaveAll old new bytes))
+
 -- reading a source ended a run with this status
 abbrev pub StopsReading : Told → Told → Status → Type 0
-StopsReading old new (statuses.Input fault) = (new.faults ≡ old.faults) × AreRead old.bytes (Err fault)
+StopsReading old new (statuses.Input fault) = (new.faults ≡ old.faults) × AreRead old.bytes (Err fault) × GaveBy fault old.bytes new.bytes
 StopsReading old new statuses.ReadFailed = Rose old.faults new.faults
 StopsReading old new statuses.OutOfMemory = Unit {0}
 StopsReading old new (statuses.Success receipt) = ⊥

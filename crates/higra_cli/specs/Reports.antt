@@ -196,7 +196,7 @@ refusal_in form tile report input = picture_fault form report input before (tile
 
 -- why the report can't be made of the input, if it can't
 unfoldable pub refusal : Request → Input → Option InputFault
-refusal request input = picture_fault request.form request.report input before (tile_fault (tiles_of request input) before drawing_fault request.form request.report input)
+refusal request input = refusal_in request.form request.tile request.report input
 
 -- what making a report of this form in tiles of this size answers: exactly its bytes, or why there is none, or that
 -- memory ran out

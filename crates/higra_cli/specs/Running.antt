@@ -7,8 +7,7 @@ use Rattle.component_tree.specs.declared.side.Side.{Side}
 use Rattle.energy_cut.specs.Cuts.{IsLeastCut}
 use Rattle.extinction.specs.Hierarchy.{hierarchy_of}
 use Rattle.extinction.specs.declared.kind.Kind.{Kind}
-use Rattle.hg_base.specs.Edges.{IsIn, Joined}
-use Rattle.hg_base.specs.Graph.{WeightedGraph, first_end, second_end}
+use Rattle.hg_base.specs.Graph.{WeightedGraph}
 use Rattle.hg_base.specs.Levels.{Shares}
 use Rattle.hg_base.specs.Outside.{Rose, AppendsPrefix}
 use Rattle.hg_base.specs.Rank.{ranked}
@@ -18,13 +17,11 @@ use Rattle.hg_base.specs.Saliencies.{saliency}
 use Rattle.hg_base.specs.declared.fault.InputFault.{InputFault}
 use Rattle.merge_board.specs.Seats.{ReceiptState}
 use Rattle.pgm_reader.specs.Generator.{made}
-use Rattle.watershed_cut.specs.Minima.{InMinimum}
-use Rattle.watershed_cut.specs.MinimumTests.{vertex_label}
-use Rattle.watershed_cut.specs.Rooted.{IsRooted, cost, planted}
-use Rattle.watershed_cut.specs.Watershed.{WatershedCut, watershed_of}
+use Rattle.watershed_cut.specs.Watershed.{IsWatershed, watershed_of}
+use Rattle.higra_cli.specs.Altitudes.{HasAltitudes}
 use Rattle.higra_cli.specs.Command.{requested}
 use Rattle.higra_cli.specs.Inputs.{graph_of, input_for}
-use Rattle.higra_cli.specs.Reading.{Told, GaveInput, StopsReading}
+use Rattle.higra_cli.specs.Reading.{Told, GaveBy, GaveInput, StopsReading}
 use Rattle.higra_cli.specs.Reports.{component_side, graph_energies, graph_energy_cut, picture_components, receipt_of, refusal, report_of}
 use Rattle.higra_cli.specs.Request.{can_be_drawn}
 use Rattle.higra_cli.specs.declared.input.Input.{Input}
@@ -34,7 +31,6 @@ use Rattle.higra_cli.specs.declared.request.Request.{Request}
 use Rattle.higra_cli.specs.declared.request.Form.{Form}
 use Rattle.higra_cli.specs.declared.request.Form.TheVariants as forms
 use Rattle.higra_cli.specs.declared.request.Report.{Report}
-use Rattle.higra_cli.specs.declared.request.Report.TheVariants as reports
 use Rattle.higra_cli.specs.declared.ending.Status.{Status}
 use Rattle.higra_cli.specs.declared.ending.Status.TheVariants as statuses
 
@@ -113,25 +109,17 @@ abbrev pub IsAnswerTo : Request → List ℕ → Status → Type 0
 IsAnswerTo request bytes status =
     (status ≡ answer_of request bytes) ⊎ ((status ≡ statuses.OutOfMemory) ⊎ ((status ≡ statuses.WriteFailed) × IsSuccess (answer_of request bytes)))
 
--- The forest is rooted in the minima, and no list of edges that is rooted so weighs less. The forest and the minimum edges
--- join each vertex to the minimum whose label it has, and to no other. The cut holds exactly the edges whose ends they don't join.
-pub record IsWatershed (g : WeightedGraph) (w : WatershedCut) : Type 0 where
-  pub rooted : IsRooted g w.forest
-  pub least : (f : List ℕ) → IsRooted g f → cost g w.forest ≤ cost g f
-  pub one_label_each : length w.labels.labels ≡ g.n
-  pub reach : (x : ℕ) → x < g.n → (y : ℕ) × (InMinimum g.n (ranked g) y × Joined (planted g w.forest) x y)
-  pub label : (x y : ℕ) → x < g.n → InMinimum g.n (ranked g) y → Joined (planted g w.forest) x y → get_or w.labels.labels x 0 ≡ vertex_label g.n (ranked g) y
-  pub cut : (e : ℕ) → IsIn e w.cut ↔ ((e < length g.edges) × (¬ Joined (planted g w.forest) (first_end g e) (second_end g e)))
-
 -- Two vertices share a node of altitude 0 of the hierarchical watershed exactly where the watershed cut gives them one label.
 abbrev pub BeginsAtWatershed : WeightedGraph → ParentTree → Type 0
 BeginsAtWatershed g tree =
     (x y : ℕ) → x < g.n → y < g.n → (Shares tree 0 x y ↔ (get_or (watershed_of g).labels.labels x 0 ≡ get_or (watershed_of g).labels.labels y 0))
 
--- the nodes of a graph's tree are the components of its fronts, each once, the saliency of each edge is the least weight
--- that joins its ends, the watershed cut is one, each hierarchical watershed begins at it, and each least cut is one
+-- the nodes of a graph's tree are the components of its fronts, each once, and have the altitudes of these, the saliency
+-- of each edge is the least weight that joins its ends, the watershed cut is one, each hierarchical watershed begins at it,
+-- and each least cut is one
 pub record IsHierarchy (g : WeightedGraph) : Type 0 where
   pub nodes : IsFrontTree (graph_tree g) g.n (ranked g)
+  pub altitudes : HasAltitudes (graph_tree g) (ranked g)
   pub saliencies : (e : ℕ) → e < length g.edges → IsSaliency g e (saliency g e)
   pub watershed : IsWatershed g (watershed_of g)
   pub hierarchies : (kind : Kind) → BeginsAtWatershed g (hierarchy_of g kind)
@@ -184,6 +172,15 @@ EndsWriting request input out out' (Err statuses.ReadFailed) = ⊥
 abbrev pub HasStatus : List (List ℕ) → Option (List ℕ) → Status → Type 0
 HasStatus words left status = (request : Request) × ((requested words ≡ Some request) × IsFor request left status)
 
+-- how much was taken of the source of a request whose input has this fault: nothing where a picture is made
+abbrev pub TookBy : Option Made → InputFault → Option (List ℕ) → Option (List ℕ) → Type 0
+TookBy (Some m) fault old new = new ≡ old
+TookBy None fault old new = GaveBy fault old new
+
+-- the words gave a request, and this much was taken of its source
+abbrev pub HasTaken : List (List ℕ) → Option (List ℕ) → Option (List ℕ) → InputFault → Type 0
+HasTaken words old new fault = (request : Request) × ((requested words ≡ Some request) × TookBy request.made fault old new)
+
 -- how a run on these words left its source and its sink, by its status
 abbrev pub Ends : List (List ℕ) → Told → Told → Told → Told → Status → Type 0
 Ends words source source' out out' (statuses.Success receipt) =
@@ -191,7 +188,7 @@ Ends words source source' out out' (statuses.Success receipt) =
 Ends words source source' out out' statuses.Usage =
     (requested words ≡ None) × (source'.faults ≡ source.faults) × (out'.faults ≡ out.faults)
 Ends words source source' out out' (statuses.Input fault) =
-    HasStatus words source.bytes (statuses.Input fault) × (source'.faults ≡ source.faults) × (out'.faults ≡ out.faults)
+    HasStatus words source.bytes (statuses.Input fault) × HasTaken words source.bytes source'.bytes fault × (source'.faults ≡ source.faults) × (out'.faults ≡ out.faults)
 Ends words source source' out out' statuses.ReadFailed =
     HasRequest words × Rose source.faults source'.faults × (out'.faults ≡ out.faults)
 Ends words source source' out out' statuses.WriteFailed =

@@ -6,6 +6,7 @@ mod components;
 mod decoding;
 mod drawing;
 mod ending;
+mod exiting;
 mod hierarchies;
 mod input;
 pub mod laws;
@@ -23,6 +24,7 @@ mod writing;
 
 pub use command::{found_text, matches_by, with_option};
 pub use ending::Status;
+pub use exiting::exit_code;
 pub use extinction::Kind;
 pub use hierarchies::Basins;
 pub use input::Input;

@@ -6,8 +6,9 @@ ghost use Rattle.hg_base.specs.declared.fault.InputFault.{InputFault};
 ghost use Rattle.merge_board.specs.Seats.{ReceiptState};
 ghost use Rattle.higra_cli.specs.Command.{requested};
 ghost use Rattle.higra_cli.specs.Ending.{fault_line};
-ghost use Rattle.higra_cli.specs.Reading.{GaveAtMost, told};
-ghost use Rattle.higra_cli.specs.Running.{AreBytesOf, CanMake, CanReport, EndsGetting, EndsWork, EndsWriting, HasStatus, IsAnswerTo, Reports, ReportsWith, StoodStill};
+ghost use Rattle.higra_cli.specs.Inputs.{too_long};
+ghost use Rattle.higra_cli.specs.Reading.{GaveAtMost, GaveTooMuch, told};
+ghost use Rattle.higra_cli.specs.Running.{AreBytesOf, CanMake, CanReport, EndsGetting, EndsWork, EndsWriting, HasStatus, HasTaken, IsAnswerTo, Reports, ReportsWith, StoodStill};
 
 use super::ending::Status;
 use super::input::Input;
@@ -53,13 +54,14 @@ pub fn run<S: Source, K: Sink, E: Sink, G: Gate>(
     ensures read_failed { result ≡ Status.ReadFailed → Rose (S.faults source.old) (S.faults source.new) }
     ensures read_fault { S.faults source.old < S.faults source.new → (result ≡ Status.ReadFailed) ⊎ (result ≡ Status.OutOfMemory) }
     ensures input { (fault : InputFault) → result ≡ Status.Input fault → HasStatus words.now (S.left source.old) (Status.Input fault) }
+    ensures taken { (fault : InputFault) → result ≡ Status.Input fault → HasTaken words.now (S.left source.old) (S.left source.new) fault }
+    ensures too_long { (had bytes : List ℕ) → S.left source.old ≡ Some had → GaveTooMuch (S.left source.old) (S.left source.new) bytes → StoodStill (S.faults source.old) (S.faults source.new) → (result ≡ Status.Input too_long) ⊎ (result ≡ Status.OutOfMemory) }
 
     // Where the source tells its bytes and no read fails, the status is the one for these bytes.
     ensures complete { (request : Request) (bytes : List ℕ) → requested words.now ≡ Some request → AreBytesOf request.made (S.left source.old) bytes → StoodStill (S.faults source.old) (S.faults source.new) → IsAnswerTo request bytes result }
 
     // The report.
-    ensures success { (receipt : ReceiptState) → result ≡ Status.Success receipt → Reports words.now (S.left source.old) (S.left source.new) (Appends (K.content out.old) (K.content out.new)) }
-    ensures receipt { (receipt : ReceiptState) → result ≡ Status.Success receipt → ReportsWith words.now (S.left source.old) (S.left source.new) (Appends (K.content out.old) (K.content out.new)) receipt }
+    ensures success { (receipt : ReceiptState) → result ≡ Status.Success receipt → ReportsWith words.now (S.left source.old) (S.left source.new) (Appends (K.content out.old) (K.content out.new)) receipt }
     ensures begun { result ≡ Status.WriteFailed → Reports words.now (S.left source.old) (S.left source.new) (AppendsPrefix (K.content out.old) (K.content out.new)) }
 
     // The sink of the report.

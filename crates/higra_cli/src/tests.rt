@@ -1,4 +1,4 @@
-use super::{Form, Report, Request, Status, Words, WordsFault, request_of, run};
+use super::{Form, Report, Request, Status, Words, WordsFault, exit_code, request_of, run};
 use hg_base::{Failed, MemSink, MemSource, OpenGate, OutOfMemory, Sink, Source};
 use std::alloc::{AllocError, Global};
 use std::process::Abort;
@@ -37,8 +37,8 @@ fn runs<S: Source>(
     want: (u8, &str, &str),
 ) -> Result<(), Fail> {
     let words = words_of(alloc, words)?;
-    let status = run(rt, alloc, &words, source, out, err, &OpenGate);
-    assert_eq!(rt; status.code(), want.0);
+    let code = exit_code(rt, alloc, &words, source, out, err, &OpenGate);
+    assert_eq!(rt; code, want.0);
     assert_eq!(rt; out.taken(), want.1.as_bytes());
     assert_eq!(rt; err.taken(), want.2.as_bytes());
     Ok(())

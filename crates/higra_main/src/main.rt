@@ -2,7 +2,7 @@
 #![tactic(auto)]
 
 use hg_base::{OpenGate, StdSink, StdSource};
-use higra_cli::{Status, Words, run};
+use higra_cli::{Status, Words, exit_code};
 use std::env;
 use std::process::ExitCode;
 
@@ -22,7 +22,7 @@ fn main(rt: HostRuntime) -> ExitCode {
     let mut source = StdSource::new(rt.stdin());
     let mut out = StdSink::new(rt.stdout());
     let mut err = StdSink::new(rt.stderr());
-    let status = run(
+    ExitCode::from(exit_code(
         &rt,
         rt.alloc(),
         &words,
@@ -30,6 +30,5 @@ fn main(rt: HostRuntime) -> ExitCode {
         &mut out,
         &mut err,
         &OpenGate,
-    );
-    ExitCode::from(status.code())
+    ))
 }

@@ -1,15 +1,15 @@
 -- The tests of forest edges say what is said by walks.
-use Rattle.std.proofs.Common.{◌≡◌, ℕ, suc, true, false, inl, inr, arith}
+use Rattle.std.proofs.Common.{◌≡◌, ℕ, suc, true, false, inl, inr, refl, sym, ◌∙◌, arith}
 use Rattle.std.specs.Prelude.{◌↔◌, not, ◌&&◌}
 use Rattle.std.specs.List.{range_with_len}
 use Rattle.std.proofs.lemmas.Bool.{and_parts, and_from, and_cases, and_left, and_right, both_ways, not-true, not_from_false, false_from_ne_true, cond-true, cond-false}
-use Rattle.hg_base.specs.Edges.{ListedEdge, EdgeList, IsIn, joined, below, is_joining, count_below}
+use Rattle.hg_base.specs.Edges.{ListedEdge, EdgeList, IsIn, AreWithin, joined, below, is_joining, count_below}
 use Rattle.hg_base.specs.Labels.{least_of}
 use Rattle.hg_base.proofs.Sets.{IsIn-joins, IsIn-joins_kept}
 use Rattle.hg_base.proofs.Walks.{Joined-joined}
 use Rattle.hg_base.proofs.Drops.{holds}
-use Rattle.watershed_cut.specs.Minima.{InMinimum}
-use Rattle.watershed_cut.specs.MinimumTests.{is_minimum, in_minimum, same_minimum, is_head, vertex_label}
+use Rattle.watershed_cut.specs.Minima.{IsMinimumEdge, InMinimum}
+use Rattle.watershed_cut.specs.MinimumTests.{is_minimum, in_minimum, same_minimum, is_head, vertex_label, edge_label}
 use Rattle.watershed_cut.specs.Forest.{Reaches, reaches, IsForestEdge, is_forest}
 use Rattle.watershed_cut.proofs.AnyIn.{any-from, any-to, range-from}
 use Rattle.watershed_cut.proofs.MinimumWalks.{minimum-to, minimum-from, in_minimum-to, in_minimum-from}
@@ -19,6 +19,15 @@ pub label-zero : (n : ℕ) (s : EdgeList) (x : ℕ) → (vertex_label n s x ≡ 
 label-zero n s x = (
   λ z m. (let e : vertex_label n s x ≡ suc (count_below (is_head n s) (least_of (same_minimum n s) x)) = cond-true (in_minimum n s x) _ _ (in_minimum-from n s x m) in omega (arith, z, e)),
   λ none'. cond-false (in_minimum n s x) _ _ (false_from_ne_true (in_minimum n s x) (λ t. none' (in_minimum-to n s x t))),
+)
+
+-- an edge that is no minimum edge has the label 0, and no other edge has
+pub edge_label-zero : (n : ℕ) (s : EdgeList) → AreWithin n s → (e : ListedEdge) → IsIn e s → (edge_label n s e ≡ 0) ↔ (¬ IsMinimumEdge s e)
+edge_label-zero n s within e i = (
+  λ z m.
+      let is : edge_label n s e ≡ vertex_label n s e.u = cond-true (is_minimum s e) _ _ (minimum-from s e m) in
+      (label-zero n s e.u).0 (sym is ∙ z) (record { vertex = (within e i).0; either = inr (e, (m, inl refl)) }),
+  λ none'. cond-false (is_minimum s e) _ _ (false_from_ne_true (is_minimum s e) (λ t. none' (minimum-to s e i t))),
 )
 
 -- the test of a minimum that is reached

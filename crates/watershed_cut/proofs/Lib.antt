@@ -21,3 +21,4 @@ pub mod NearLaws
 pub mod NodeLabels
 pub mod FilterPasses
 pub mod WatershedLemmas
+pub mod PlantedTrees

@@ -17,14 +17,14 @@ use Rattle.hg_base.proofs.Members.{IsIn-filter, IsIn-kept}
 use Rattle.hg_base.proofs.Ranked.{AreApart-ranked, AreWithin-ranked, ends-within}
 use Rattle.hg_base.proofs.Sets.{same_test, joined-among}
 use Rattle.hg_base.proofs.Walks.{IsSame-joined, Joined-joined}
-use Rattle.watershed_cut.specs.Minima.{InMinimum}
+use Rattle.watershed_cut.specs.Minima.{InMinimum, SameMinimum}
 use Rattle.watershed_cut.specs.MinimumTests.{minimum_edges, in_minimum, same_minimum, is_head, minimum_count, vertex_label}
 use Rattle.watershed_cut.specs.Forest.{is_forest, trees, IsForestList}
 use Rattle.watershed_cut.specs.Watershed.{reaches_label, tree_label, is_cut}
 use Rattle.watershed_cut.proofs.AnyIn.{any-from, any-to, range-to, range-from}
 use Rattle.watershed_cut.proofs.ForestLaws.{forest-reach, forest-one}
 use Rattle.watershed_cut.proofs.ForestWalks.{label-zero}
-use Rattle.watershed_cut.proofs.MinimumWalks.{in_minimum-to, in_minimum-from, same_minimum-from}
+use Rattle.watershed_cut.proofs.MinimumWalks.{in_minimum-to, in_minimum-from, same_minimum-to, same_minimum-from}
 
 -- the parts of the test of two vertices in one minimum
 same-parts : (n : ℕ) (s : EdgeList) (x y : ℕ) → same_minimum n s x y ≡ true → (in_minimum n s x ≡ true) × ((in_minimum n s y ≡ true) × (joined (minimum_edges s) x y ≡ true))
@@ -85,6 +85,13 @@ label-same n s x y px py e =
         | inr high ↦ absurd (let m = count_below-step (is_head n s) (least_of r y) (least_of r x) high (head-of n s y py) in omega (arith, m, counts))
       ]
     ]
+
+-- two vertices in minima have one label exactly where they are in one minimum
+pub label-one : (n : ℕ) (s : EdgeList) (x y : ℕ) → InMinimum n s x → InMinimum n s y → (vertex_label n s x ≡ vertex_label n s y) ↔ SameMinimum n s x y
+label-one n s x y mx my = (
+  λ e. same_minimum-to n s x y (label-same n s x y (in_minimum-from n s x mx) (in_minimum-from n s y my) e),
+  λ one. label-equal n s x y (same_minimum-from n s x y one),
+)
 
 -- a label is from 1 to the number of minima
 pub label-range : (n : ℕ) (s : EdgeList) (x : ℕ) → in_minimum n s x ≡ true → IsLabel (minimum_count n s) (vertex_label n s x)

@@ -123,11 +123,12 @@ pub record AreFound (g : WeightedGraph) (t : ParentTree) (minima : LabelledMinim
   pub ends : (e : ℕ) → e < length g.edges → HasTwoEnds g e
   pub between : cut ≡ cut_by g labels
 
-pub record IsWatershed (g : WeightedGraph) (labels forest' cut : List ℕ) (count : ℕ) : Type 0 where
+-- labels, forest and cut of the graph's watershed, which are a labelling
+pub record IsWatershedOf (g : WeightedGraph) (labels forest' cut : List ℕ) (count : ℕ) : Type 0 where
   pub fit : IsLabelling (record { labels = labels; count = count })
   pub result : record { labels = record { labels = labels; count = count }; cut = cut; forest = forest' } ≡ watershed_of g
 
-pub watershed-made : (g : WeightedGraph) (t : ParentTree) (minima : LabelledMinima) (near labels nodes forest' cut : List ℕ) (chosen : List Bool) (count : ℕ) → count ≡ minima.count → AreFound g t minima near labels nodes forest' cut chosen → IsWatershed g labels forest' cut count
+pub watershed-made : (g : WeightedGraph) (t : ParentTree) (minima : LabelledMinima) (near labels nodes forest' cut : List ℕ) (chosen : List Bool) (count : ℕ) → count ≡ minima.count → AreFound g t minima near labels nodes forest' cut chosen → IsWatershedOf g labels forest' cut count
 watershed-made g t minima near labels nodes forest' cut chosen count counted f = record {
   fit = subst IsLabelling (sym labelled) fits;
   result =
@@ -207,7 +208,7 @@ minima-lengths g t minima same of_graph = (
 pub watershed-found : (g : WeightedGraph) (t : ParentTree) (minima : LabelledMinima) (near part third labels fourth forest' cut : List ℕ) (chosen second : List Bool) (count : ℕ) → t ≡ graph_tree g → minima ≡ minima_of g → IsForest t →
     AreNearest t minima.vertices near → part ≡ near → AreChosen g t part minima.edges chosen → second ≡ chosen → forest' ≡ filter (λ e. get_or second e false) (range_with_len 0 (length second)) →
     third ≡ near → ((nodes : List ℕ) × (AreNodeLabels g t minima.vertices third nodes × (labels ≡ map (λ x. get_or nodes (get_or third x 0) 0) (range_with_len 0 t.leaves)))) →
-    fourth ≡ labels → ((e : ℕ) → e < length g.edges → HasTwoEnds g e) → cut ≡ cut_by g fourth → count ≡ minima.count → IsWatershed g labels forest' cut count
+    fourth ≡ labels → ((e : ℕ) → e < length g.edges → HasTwoEnds g e) → cut ≡ cut_by g fourth → count ≡ minima.count → IsWatershedOf g labels forest' cut count
 watershed-found g t minima near part third labels fourth forest' cut chosen second count same of_graph f nearest one picked two kept three inner four ends between counted =
     let leaves : t.leaves ≡ g.n = ap (λ (u : ParentTree). u.leaves) same in
     watershed-made g t minima near labels inner.0 forest' cut chosen count counted (record {

@@ -1,12 +1,14 @@
 -- The watershed cut of a graph: between the trees of its forest (Cousty and others, Watershed Cuts, 2009).
-use Rattle.std.specs.Prelude.{ℕ, ◌==◌, Bool, not, ◌&&◌, List, map, filter, find, unwrap_or}
+use Rattle.std.specs.Prelude.{◌≡◌, ◌↔◌, ℕ, ◌==◌, ◌<◌, ◌≤◌, Bool, not, ◌&&◌, List, length, get_or, map, filter, find, unwrap_or}
 use Rattle.std.specs.List.{range_with_len, list_any}
 use Rattle.hg_base.specs.Graph.{WeightedGraph, first_end, second_end}
-use Rattle.hg_base.specs.Edges.{EdgeList, joined}
+use Rattle.hg_base.specs.Edges.{EdgeList, IsIn, Joined, joined}
 use Rattle.hg_base.specs.Rank.{numbers, ranked}
 use Rattle.hg_base.specs.Labels.{Labelling}
+use Rattle.watershed_cut.specs.Minima.{InMinimum}
 use Rattle.watershed_cut.specs.MinimumTests.{minimum_count, vertex_label}
 use Rattle.watershed_cut.specs.Forest.{trees, forest}
+use Rattle.watershed_cut.specs.Rooted.{IsRooted, cost, planted}
 
 -- the trees join x to a vertex of the minimum with this label
 abbrev pub reaches_label : ℕ → EdgeList → ℕ → ℕ → Bool
@@ -34,3 +36,13 @@ pub record WatershedCut : Type 0 where
 -- the watershed cut of a graph
 abbrev pub watershed_of : WeightedGraph → WatershedCut
 watershed_of g = record { labels = tree_labelling g; cut = filter (is_cut g) (numbers g); forest = forest g }
+
+-- The forest is rooted in the minima, so that it and the minimum edges join each vertex to exactly one minimum, and no list
+-- of edges that is rooted so weighs less. Each vertex has the label of that minimum. The cut holds exactly the edges whose
+-- ends they don't join.
+pub record IsWatershed (g : WeightedGraph) (w : WatershedCut) : Type 0 where
+  pub rooted : IsRooted g w.forest
+  pub least : (f : List ℕ) → IsRooted g f → cost g w.forest ≤ cost g f
+  pub one_label_each : length w.labels.labels ≡ g.n
+  pub label : (x y : ℕ) → x < g.n → InMinimum g.n (ranked g) y → Joined (planted g w.forest) x y → get_or w.labels.labels x 0 ≡ vertex_label g.n (ranked g) y
+  pub cut : (e : ℕ) → IsIn e w.cut ↔ ((e < length g.edges) × (¬ Joined (planted g w.forest) (first_end g e) (second_end g e)))

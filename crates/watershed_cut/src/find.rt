@@ -6,7 +6,7 @@ ghost use Rattle.edge_order.specs.Order.{order_of};
 ghost use Rattle.watershed_cut.specs.MinimumLabels.{minima_of};
 ghost use Rattle.watershed_cut.specs.Passes.{HasTwoEnds};
 ghost use Rattle.watershed_cut.specs.TreePasses.{cut_by};
-ghost use Rattle.watershed_cut.specs.Watershed.{watershed_of};
+ghost use Rattle.watershed_cut.specs.Watershed.{IsWatershed, watershed_of};
 
 use crate::cuts::Watershed;
 use crate::forest::{chosen_edges, vertex_labels};
@@ -18,8 +18,10 @@ use partition_tree::Tree;
 use std::alloc::{AllocError, Global};
 
 /// The watershed cut of a graph, of which order, tree and minima are its own. The forest holds the joining edges outside
-/// the minima of which at least one end is joined, by edges of lower rank, to no vertex of a minimum. The error is want
-/// of memory.
+/// the minima of which at least one end is joined, by edges of lower rank, to no vertex of a minimum. It is rooted in the
+/// minima and weighs no more than any forest that is rooted so, and the cut lies between its trees (Cousty and others,
+/// Watershed Cuts, 2009). The error is want of memory.
+#[tactic(auto, using(crate::proofs::PlantedTrees::watershed_made))]
 pub fn watershed(
     alloc: Global,
     graph: &Graph,
@@ -30,9 +32,12 @@ pub fn watershed(
     requires order { order.now ≡ order_of graph.now }
     requires tree { tree.now ≡ graph_tree graph.now }
     requires minima { minima.now ≡ minima_of graph.now }
-    ensures { IfOk result (λ watershed. watershed ≡ watershed_of graph.now) }
+    ensures watershed { IfOk result (λ watershed. watershed ≡ watershed_of graph.now) }
+    ensures least { IfOk result (λ watershed. IsWatershed graph.now watershed) }
 {
     let _ = order;
+    // That the graph keeps to its limits.
+    let _ = graph.n();
     by_tree(alloc, graph, tree, minima).map_err(|_| OutOfMemory)
 }
 

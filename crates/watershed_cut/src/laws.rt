@@ -5,18 +5,22 @@ ghost use Rattle.hg_base.specs.Labels.{IsLabel};
 ghost use Rattle.hg_base.specs.Rank.{ranked};
 ghost use Rattle.hg_base.specs.Edges.{ListedEdge, EdgeList, IsIn, AreApart, AreWithin, Joined, count_below};
 ghost use Rattle.watershed_cut.specs.Minima.{IsMinimumEdge, InMinimum, SameMinimum, IsHead};
-ghost use Rattle.watershed_cut.specs.MinimumTests.{is_minimum, in_minimum, same_minimum, is_head, minimum_edges, minimum_count, vertex_label};
+ghost use Rattle.watershed_cut.specs.MinimumTests.{is_minimum, in_minimum, same_minimum, is_head, minimum_edges, minimum_count, vertex_label, edge_label};
 ghost use Rattle.watershed_cut.specs.Forest.{Reaches, reaches, IsForestEdge, is_forest, trees, IsForestList, forest};
 ghost use Rattle.watershed_cut.specs.Rooted.{IsRooted, cost};
 ghost use Rattle.watershed_cut.specs.Watershed.{tree_label, is_cut};
 
-/// The tests of minima say exactly what is said by walks, and the label 0 is that of what is in no minimum.
+/// The tests of minima say exactly what is said by walks. The label 0 is that of the vertices in no minimum and of the
+/// edges that are no minimum edges, and two vertices in minima have one label exactly where they are in one minimum.
 pub fn minima_by_walks()
     ensures edges { (s : EdgeList) (e : ListedEdge) → IsIn e s → (IsTrue (is_minimum s e) ↔ IsMinimumEdge s e) }
     ensures vertices { (n : ℕ) (s : EdgeList) (x : ℕ) → IsTrue (in_minimum n s x) ↔ InMinimum n s x }
     ensures same { (n : ℕ) (s : EdgeList) (x y : ℕ) → IsTrue (same_minimum n s x y) ↔ SameMinimum n s x y }
     ensures heads { (n : ℕ) (s : EdgeList) (x : ℕ) → IsTrue (is_head n s x) ↔ IsHead n s x }
     ensures zero { (n : ℕ) (s : EdgeList) (x : ℕ) → (vertex_label n s x ≡ 0) ↔ (¬ InMinimum n s x) }
+    ensures zero_edge { (n : ℕ) (s : EdgeList) → AreWithin n s → (e : ListedEdge) → IsIn e s → ((edge_label n s e ≡ 0) ↔ (¬ IsMinimumEdge s e)) }
+    ensures one_label { (n : ℕ) (s : EdgeList) (x y : ℕ) → InMinimum n s x → InMinimum n s y →
+        ((vertex_label n s x ≡ vertex_label n s y) ↔ SameMinimum n s x y) }
 {}
 
 /// The tests of forest edges say exactly what is said by walks.

@@ -1,4 +1,4 @@
-use Rattle.std.proofs.Common.{◌≡◌, ℕ, ◌*◌, ◌≤◌, List, Some, length, ap, sym, ◌∙◌, arith}
+use Rattle.std.proofs.Common.{◌≡◌, ℕ, ◌*◌, List, Some, length, ap, sym, ◌∙◌, arith}
 use Rattle.higra_cli.proofs.EnergyLemmas.{areas_all, areas_more}
 use Rattle.higra_cli.proofs.components.values_of.Goals as goal
 

@@ -5,4 +5,4 @@ use Rattle.higra_cli.proofs.drawing.draw_watershed.Goals as goal
 
 pub draw-requires : goal.draw-requires
 draw-requires c =
-    watershed_pixels c.args.picture.now c.args.graph.now c.labels.result.now c.requires.graph (c.labels.ensures ∙ ap (λ (w : WatershedCut). w.labels) c.in_ok-watershed.ensures)
+    watershed_pixels c.args.picture.now c.args.graph.now c.labels.result.now c.requires.graph (c.labels.ensures ∙ ap (λ (w : WatershedCut). w.labels) c.in_ok-watershed.ensures.watershed)

@@ -1,8 +1,6 @@
-use Rattle.std.proofs.Common.{◌*◌, ℕ, refl, sym, ap, ◌∙◌, subst, Ok, Err}
-use Rattle.std.specs.Prelude.{Result}
+use Rattle.std.proofs.Common.{refl, sym, subst, Ok, Err}
 use Rattle.std.proofs.lemmas.Result.{err_from_is_err_and}
 use Rattle.tile_plan.specs.Plan.{IsAnswer, TilePlan, squares}
-use Rattle.tile_plan.specs.declared.fault.PlanFault.{PlanFault}
 use Rattle.higra_cli.proofs.PlanningLemmas.{over_squares, plan_refused, planned_is, squared}
 use Rattle.higra_cli.specs.Planning.{IsPlanned}
 use Rattle.higra_cli.proofs.planning.plan_pixels.Goals as goal

@@ -1,36 +1,25 @@
--- The watershed cut of a graph is one.
-use Rattle.std.proofs.Common.{◌≡◌, ℕ, ◌+◌, ◌<◌, ◌≤◌, true, inl, inr, sym, subst, ap, ◌∙◌, arith, length, map}
-use Rattle.std.specs.Prelude.{◌↔◌, ◌==◌, Option, filter}
-use Rattle.std.proofs.lemmas.Bool.{eqb-false, ne_eqb, not-true, not_from_false}
+-- The watershed cut of a graph is one: its forest's edges by number and the minimum edges are its trees.
+use Rattle.std.proofs.Common.{◌≡◌, ℕ, ◌+◌, ◌<◌, true, inl, inr, sym, subst, ◌∙◌, arith, length, map, Result, Ok, Err}
+use Rattle.std.specs.Prelude.{◌↔◌, IfOk, filter}
 use Rattle.std.proofs.lemmas.List.FromFn.{get_or-map-range_with_len, length-map-range_with_len}
-use Rattle.hg_base.specs.Edges.{ListedEdge, AreWithin, IsIn, Joined}
+use Rattle.hg_base.specs.Edges.{ListedEdge, IsIn, Joined}
 use Rattle.hg_base.specs.Graph.{WeightedGraph, IsGraph, first_end, second_end}
-use Rattle.hg_base.specs.Rank.{listed, numbers, rank, ranked}
+use Rattle.hg_base.specs.Rank.{numbers, ranked}
 use Rattle.hg_base.proofs.Components.{IsIn-append, IsIn-append_back}
 use Rattle.hg_base.proofs.Drops.{holds}
 use Rattle.hg_base.proofs.Members.{IsIn-filter, IsIn-kept}
-use Rattle.hg_base.proofs.Ranked.{AreApart-ranked, AreWithin-ranked, IsIn-ranked}
+use Rattle.hg_base.proofs.Ranked.{AreApart-ranked, AreWithin-ranked}
 use Rattle.hg_base.proofs.Sets.{joined-among}
 use Rattle.hg_base.proofs.Walks.{Joined-joined}
-use Rattle.forest_witness.specs.Reading.{IsRead}
-use Rattle.forest_witness.proofs.Shapes.{read_least, read_rooted}
 use Rattle.watershed_cut.specs.Forest.{forest, is_forest, trees}
 use Rattle.watershed_cut.specs.MinimumLabels.{numbered}
 use Rattle.watershed_cut.specs.MinimumTests.{minimum_edges}
 use Rattle.watershed_cut.specs.Rooted.{planted}
-use Rattle.watershed_cut.specs.Watershed.{is_cut, tree_label, watershed_of}
+use Rattle.watershed_cut.specs.Watershed.{IsWatershed, WatershedCut, is_cut, tree_label, watershed_of}
 use Rattle.watershed_cut.proofs.AnyIn.{range-from, range-to}
-use Rattle.watershed_cut.proofs.GraphForest.{graph-forest}
-use Rattle.watershed_cut.proofs.TreeLabels.{tree-label_same, tree-label_walk}
-use Rattle.higra_cli.specs.Running.{IsWatershed}
-
--- what reading the edges of a graph tells holds of every graph
-graph-read : (g : WeightedGraph) → IsGraph g → IsRead g
-graph-read g is = record { some_vertex = is.some_vertex; vertices = is.vertices; edges = is.edges; ends = is.ends }
-
--- the ends of an edge are vertices
-pub ends-within : (g : WeightedGraph) (e : ℕ) → AreWithin g.n (ranked g) → e < length g.edges → (first_end g e < g.n) × (second_end g e < g.n)
-ends-within g e within h = within (listed g (rank g e) e) (IsIn-ranked g e h)
+use Rattle.watershed_cut.proofs.GraphForest.{forest-rooted, graph-forest}
+use Rattle.watershed_cut.proofs.LeastForest.{forest-least}
+use Rattle.watershed_cut.proofs.TreeLabels.{cut-between, tree-label_walk}
 
 -- the edges with the forest's numbers are those of the trees
 planted-in : (g : WeightedGraph) (e : ListedEdge) → IsIn e (planted g (forest g)) → IsIn e (trees g.n (ranked g))
@@ -57,41 +46,35 @@ trees-joined : (g : WeightedGraph) (x y : ℕ) → Joined (trees g.n (ranked g))
 trees-joined g x y j = Joined-joined (planted g (forest g)) x y (joined-among (trees g.n (ranked g)) (planted g (forest g)) x y (in-planted g) (holds (trees g.n (ranked g)) x y j))
 
 -- an edge of the cut is one whose ends lie in different trees
-cut-test : (g : WeightedGraph) (e : ℕ) → AreWithin g.n (ranked g) → e < length g.edges → (is_cut g e ≡ true) ↔ (¬ Joined (planted g (forest g)) (first_end g e) (second_end g e))
-cut-test g e within h = (
-  λ c j. eqb-false a b (not-true (a == b) c) (same.1 (joined-trees g (first_end g e) (second_end g e) j)),
-  λ apart. not_from_false (a == b) (ne_eqb a b (λ q. apart (trees-joined g (first_end g e) (second_end g e) (same.0 q)))),
+cut-test : (g : WeightedGraph) → IsGraph g → (e : ℕ) → e < length g.edges → (is_cut g e ≡ true) ↔ (¬ Joined (planted g (forest g)) (first_end g e) (second_end g e))
+cut-test g is e h = (
+  λ c j. (cut-between g is e h).0 c (joined-trees g (first_end g e) (second_end g e) j),
+  λ apart. (cut-between g is e h).1 (λ j. apart (trees-joined g (first_end g e) (second_end g e) j)),
 )
-  where
-    a : ℕ
-    a = tree_label g.n (ranked g) (first_end g e)
-
-    b : ℕ
-    b = tree_label g.n (ranked g) (second_end g e)
-
-    same : (a ≡ b) ↔ Joined (trees g.n (ranked g)) (first_end g e) (second_end g e)
-    same = let ends = ends-within g e within h in tree-label_same g.n (ranked g) (AreApart-ranked g) within (first_end g e) (second_end g e) ends.0 ends.1
 
 -- the cut's numbers are those of these edges
-cut-member : (g : WeightedGraph) (e : ℕ) → AreWithin g.n (ranked g) → IsIn e (watershed_of g).cut ↔ ((e < length g.edges) × (¬ Joined (planted g (forest g)) (first_end g e) (second_end g e)))
-cut-member g e within = (
+cut-member : (g : WeightedGraph) → IsGraph g → (e : ℕ) → IsIn e (watershed_of g).cut ↔ ((e < length g.edges) × (¬ Joined (planted g (forest g)) (first_end g e) (second_end g e)))
+cut-member g is e = (
   λ i. (let k = IsIn-kept (is_cut g) e (numbers g) i in
       let high : e < 0 + length g.edges = (range-to 0 (length g.edges) e k.1).1 in
       let low : e < length g.edges = omega (arith, high) in
-      (low, (cut-test g e within low).0 k.0)),
+      (low, (cut-test g is e low).0 k.0)),
   λ p. (let low : e < length g.edges = p.0 in
-      IsIn-filter (is_cut g) e (numbers g) ((cut-test g e within low).1 p.1) (range-from 0 (length g.edges) e (omega arith) (omega (arith, low)))),
+      IsIn-filter (is_cut g) e (numbers g) ((cut-test g is e low).1 p.1) (range-from 0 (length g.edges) e (omega arith) (omega (arith, low)))),
 )
 
 -- the watershed cut of a graph is one
 pub watershed-is : (g : WeightedGraph) → IsGraph g → IsWatershed g (watershed_of g)
 watershed-is g is =
-    let within = AreWithin-ranked g is in
-    let read = graph-read g is in record {
-      rooted = read_rooted g read;
-      least = read_least g read;
+    let within = AreWithin-ranked g is in record {
+      rooted = forest-rooted g is;
+      least = forest-least g is;
       one_label_each = length-map-range_with_len (tree_label g.n (ranked g)) 0 g.n;
-      reach = (read_rooted g read).reach;
       label = λ x y hx low j. (get_or-map-range_with_len (tree_label g.n (ranked g)) 0 g.n x x 0 hx (omega arith) ∙ tree-label_walk g.n (ranked g) (AreApart-ranked g) within x y low (joined-trees g x y j));
-      cut = λ e. cut-member g e within;
+      cut = λ e. cut-member g is e;
     }
+
+-- so what is made as a graph's watershed cut is one
+pub watershed_made : {E : Type 0} (g : WeightedGraph) (r : Result WatershedCut E) → IsGraph g → IfOk r (λ w. w ≡ watershed_of g) → IfOk r (λ w. IsWatershed g w)
+watershed_made g (Ok w) is same = subst (IsWatershed g) (sym same) (watershed-is g is)
+watershed_made g (Err e) is same = tt

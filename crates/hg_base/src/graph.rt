@@ -1,4 +1,4 @@
-ghost use Rattle.std.specs.Prelude.{◌≡◌, ◌↔◌, ℕ, ◌<◌, ◌≤◌, length, slice_get, Some, IfOk, IfErr, IsOk};
+ghost use Rattle.std.specs.Prelude.{◌≡◌, ◌↔◌, ℕ, ◌<◌, ◌≤◌, length, slice_get, Some, All, IfOk, IfErr, IsOk};
 ghost use Rattle.hg_base.specs.Graph.{IsGraph, JoinsTwo, with_unit_areas};
 ghost use Rattle.hg_base.specs.GraphFaults.{IsGraphFault};
 
@@ -114,6 +114,15 @@ impl Graph {
         ensures edges { result ≤ 4194304 }
     {
         self.edges.len() as u32
+    }
+
+    /// The edges, each at the place of its number.
+    pub fn edges(&self) -> &[Edge]
+        ensures value { result.now ≡ self.now.edges }
+        ensures edges { length result.now ≤ 4194304 }
+        ensures ends { All (JoinsTwo self.now.n) result.now }
+    {
+        &self.edges
     }
 
     /// The edge with this number.

@@ -118,6 +118,20 @@ impl Tree {
         self.altitudes[i as usize]
     }
 
+    /// The parent of each node.
+    pub fn parents(&self) -> &[u32]
+        ensures { result.now ≡ self.now.parents }
+    {
+        &self.parents
+    }
+
+    /// The altitude of each node.
+    pub fn altitudes(&self) -> &[u64]
+        ensures { result.now ≡ self.now.altitudes }
+    {
+        &self.altitudes
+    }
+
     /// Whether no altitude falls from child to parent, as it must be in a tree that is cut at a level or of which the
     /// zones are made.
     pub fn altitudes_rise(&self) -> bool

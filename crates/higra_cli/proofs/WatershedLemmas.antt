@@ -12,21 +12,16 @@ use Rattle.hg_base.proofs.Members.{IsIn-filter, IsIn-kept}
 use Rattle.hg_base.proofs.Ranked.{AreApart-ranked, AreWithin-ranked, IsIn-ranked}
 use Rattle.hg_base.proofs.Sets.{joined-among}
 use Rattle.hg_base.proofs.Walks.{Joined-joined}
-use Rattle.forest_witness.specs.Reading.{IsRead}
-use Rattle.forest_witness.proofs.Shapes.{read_least, read_rooted}
 use Rattle.watershed_cut.specs.Forest.{forest, is_forest, trees}
 use Rattle.watershed_cut.specs.MinimumLabels.{numbered}
 use Rattle.watershed_cut.specs.MinimumTests.{minimum_edges}
 use Rattle.watershed_cut.specs.Rooted.{planted}
 use Rattle.watershed_cut.specs.Watershed.{is_cut, tree_label, watershed_of}
 use Rattle.watershed_cut.proofs.AnyIn.{range-from, range-to}
-use Rattle.watershed_cut.proofs.GraphForest.{graph-forest}
+use Rattle.watershed_cut.proofs.GraphForest.{forest-rooted, graph-forest}
+use Rattle.watershed_cut.proofs.LeastForest.{forest-least}
 use Rattle.watershed_cut.proofs.TreeLabels.{tree-label_same, tree-label_walk}
 use Rattle.higra_cli.specs.Running.{IsWatershed}
-
--- what reading the edges of a graph tells holds of every graph
-graph-read : (g : WeightedGraph) → IsGraph g → IsRead g
-graph-read g is = record { some_vertex = is.some_vertex; vertices = is.vertices; edges = is.edges; ends = is.ends }
 
 -- the ends of an edge are vertices
 pub ends-within : (g : WeightedGraph) (e : ℕ) → AreWithin g.n (ranked g) → e < length g.edges → (first_end g e < g.n) × (second_end g e < g.n)
@@ -87,11 +82,11 @@ cut-member g e within = (
 pub watershed-is : (g : WeightedGraph) → IsGraph g → IsWatershed g (watershed_of g)
 watershed-is g is =
     let within = AreWithin-ranked g is in
-    let read = graph-read g is in record {
-      rooted = read_rooted g read;
-      least = read_least g read;
+    let rooted = forest-rooted g is in record {
+      rooted = rooted;
+      least = forest-least g is;
       one_label_each = length-map-range_with_len (tree_label g.n (ranked g)) 0 g.n;
-      reach = (read_rooted g read).reach;
+      reach = rooted.reach;
       label = λ x y hx low j. (get_or-map-range_with_len (tree_label g.n (ranked g)) 0 g.n x x 0 hx (omega arith) ∙ tree-label_walk g.n (ranked g) (AreApart-ranked g) within x y low (joined-trees g x y j));
       cut = λ e. cut-member g e within;
     }

@@ -1,5 +1,5 @@
 -- What keeps a number of vertices and a list of edges from being a graph.
-use Rattle.std.specs.Prelude.{◌≡◌, ℕ, ◌<◌, ◌≤◌, ◌⊎◌, List, length, take, All, slice_get, Some}
+use Rattle.std.specs.Prelude.{◌≡◌, ℕ, ◌<◌, ◌≤◌, ◌⊎◌, List, ◌++◌, length, take, All, slice_get, Some, codes, decimal}
 use Rattle.hg_base.specs.Graph.{JoinsTwo}
 use Rattle.hg_base.specs.declared.graph.Edge.{Edge}
 use Rattle.hg_base.specs.declared.graph_fault.GraphFault.{GraphFault}
@@ -43,3 +43,11 @@ IsGraphFault n edges (TooManyVertices vertices) = (vertices ≡ n) × (1048576 <
 IsGraphFault n edges (TooManyEdges count) = (count ≡ length edges) × (4194304 < length edges) × AreVertices n
 IsGraphFault n edges (EndOutOfRange e end) = (x : Edge) × (IsFirstBad n edges e x × IsOutside n x end)
 IsGraphFault n edges (Loop e end) = (x : Edge) × (IsFirstBad n edges e x × IsLoop n x end)
+
+-- a fault as text
+abbrev pub graph_fault_words : GraphFault → List ℕ
+graph_fault_words NoVertex = codes "there is no vertex"
+graph_fault_words (TooManyVertices vertices) = decimal vertices ++ codes " vertices are more than 1048576"
+graph_fault_words (TooManyEdges edges) = decimal edges ++ codes " edges are more than 4194304"
+graph_fault_words (EndOutOfRange e end) = codes "edge " ++ (decimal e ++ (codes ": its end " ++ (decimal end ++ codes " is no vertex")))
+graph_fault_words (Loop e end) = codes "edge " ++ (decimal e ++ (codes ": vertex " ++ (decimal end ++ codes " is both its ends")))

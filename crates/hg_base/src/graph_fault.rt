@@ -1,7 +1,7 @@
 // What keeps edges from being those of a graph, and the tests of it.
-ghost use Rattle.std.specs.Prelude.{◌≤◌, length, All, IfSome, IfNone};
+ghost use Rattle.std.specs.Prelude.{◌≤◌, length, All, Some, IfSome, IfNone};
 ghost use Rattle.hg_base.specs.Graph.{JoinsTwo};
-ghost use Rattle.hg_base.specs.GraphFaults.{AreVertices, IsGraphFault, IsEdgeFault};
+ghost use Rattle.hg_base.specs.GraphFaults.{AreVertices, IsGraphFault, IsEdgeFault, graph_fault_words};
 
 use super::graph::Edge;
 use std::error::Error;
@@ -29,19 +29,21 @@ pub enum GraphFault {
 }
 
 impl fmt::Display for GraphFault {
+    ghost output = { λ fault. Some (graph_fault_words fault) };
+
     fn fmt<W: fmt::Write>(&self, f: &mut fmt::Formatter<W>) -> fmt::Result {
-        match self {
+        match *self {
             GraphFault::NoVertex => write!(f, "there is no vertex"),
             GraphFault::TooManyVertices(vertices) => {
-                write!(f, "{vertices} vertices are more than {MOST_VERTICES}")
+                write!(f, "{vertices} vertices are more than 1048576")
             }
-            GraphFault::TooManyEdges(edges) => {
-                write!(f, "{edges} edges are more than {MOST_EDGES}")
-            }
+            GraphFault::TooManyEdges(edges) => write!(f, "{edges} edges are more than 4194304"),
             GraphFault::EndOutOfRange { edge, end } => {
                 write!(f, "edge {edge}: its end {end} is no vertex")
             }
-            GraphFault::Loop { edge, end } => write!(f, "edge {edge}: both its ends are {end}"),
+            GraphFault::Loop { edge, end } => {
+                write!(f, "edge {edge}: vertex {end} is both its ends")
+            }
         }
     }
 }

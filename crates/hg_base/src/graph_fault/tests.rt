@@ -36,7 +36,7 @@ fn faults_of_graphs(rt: HostRuntime) -> Result<(), Fail> {
             3,
             &[(0, 1), (1, 2), (2, 2), (9, 9)],
             GraphFault::Loop { edge: 2, end: 2 },
-            "edge 2: both its ends are 2",
+            "edge 2: vertex 2 is both its ends",
         ),
     ];
     for (n, ends, fault, text) in table {

@@ -1,6 +1,6 @@
 -- The watershed cut of a graph is one.
-use Rattle.std.proofs.Common.{◌≡◌, ℕ, ◌+◌, ◌<◌, ◌≤◌, true, inl, inr, sym, subst, ap, ◌∙◌, arith, length, map}
-use Rattle.std.specs.Prelude.{◌↔◌, ◌==◌, Option, filter}
+use Rattle.std.proofs.Common.{◌≡◌, ℕ, ◌+◌, ◌<◌, true, inl, inr, ap, ◌∙◌, arith, length, map}
+use Rattle.std.specs.Prelude.{◌↔◌, ◌==◌, filter}
 use Rattle.std.proofs.lemmas.Bool.{eqb-false, ne_eqb, not-true, not_from_false}
 use Rattle.std.proofs.lemmas.List.FromFn.{get_or-map-range_with_len, length-map-range_with_len}
 use Rattle.hg_base.specs.Edges.{ListedEdge, AreWithin, IsIn, Joined}

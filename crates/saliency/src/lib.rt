@@ -3,10 +3,12 @@
 
 mod regions;
 mod report;
+mod roots;
 mod values;
 
 pub use regions::cut;
 pub use report::{saliency_pieces, write_saliency};
+pub use roots::ends_share_roots;
 pub use values::saliency;
 
 #[cfg(test)]

@@ -1,10 +1,11 @@
 -- What a parse of the program's command line says.
-use Rattle.std.specs.Prelude.{Option}
-use Rattle.std.proofs.Common.{◌≡◌, ◌∙◌, true, List, ℕ, refl, sym, ap}
+use Rattle.std.specs.Prelude.{Option, codes, map}
+use Rattle.std.proofs.Common.{◌≡◌, ◌∙◌, true, List, ◌∷◌, Some, None, ℕ, refl, sym, ap}
 use Rattle.clap.specs.Words.{App, Row, is_simple, is_simple_and_free}
 use Rattle.clap.proofs.OnLiterals.{clap_on_literals}
 use Rattle.higra_cli.specs.Command.{IsReadable, found_by, with_option}
-use Rattle.contour_run.specs.Command.{higra_contours, rows_on}
+use Rattle.higra_cli.specs.Request.{◌>>=◌}
+use Rattle.contour_run.specs.Command.{contours_requested, higra_contours, request_in, rows_on}
 
 -- `clap` says of such a command what it finds
 contours-simple : is_simple higra_contours ≡ true
@@ -24,3 +25,15 @@ contours-readable command is = record { simple = ap is_simple is ∙ contours-si
 pub rows_on-found : (command : App) (line : List (List ℕ)) (found : Option (List Row)) → command ≡ higra_contours → found_by command line ≡ found → rows_on line ≡ found
 unfolding rows_on
 rows_on-found command line found is by = ap (λ (a : App). found_by a line) (sym is) ∙ by
+
+-- the texts of a line that was copied
+pub lined : {A : Type 0} (f : A → List ℕ) (copy own : List A) (line : List (List ℕ)) → copy ≡ own → map f own ≡ line → map f copy ≡ line
+lined f copy own line same is = ap (λ xs. map f xs) same ∙ is
+
+-- where something is found in the line of the words, they give its request
+pub asked_some : (words line : List (List ℕ)) (rows : List Row) → line ≡ codes "higra_contours" ∷ words → rows_on line ≡ Some rows → contours_requested words ≡ request_in rows
+asked_some words line rows is found = ap (λ (o : Option (List Row)). o >>= (λ rows. request_in rows)) (ap rows_on (sym is) ∙ found)
+
+-- and where nothing is, they give none
+pub asked_none : (words line : List (List ℕ)) → line ≡ codes "higra_contours" ∷ words → rows_on line ≡ None → contours_requested words ≡ None
+asked_none words line is found = ap (λ (o : Option (List Row)). o >>= (λ rows. request_in rows)) (ap rows_on (sym is) ∙ found)

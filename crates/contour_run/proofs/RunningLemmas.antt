@@ -16,7 +16,6 @@ use Rattle.contour_run.specs.Command.{contours_requested}
 use Rattle.contour_run.specs.Drawing.{AreContoursOf, contours_receipt, contours_refusal}
 use Rattle.contour_run.specs.Running.{Draws, DrawsWith, Ends, EndsWork, EndsWriting, HasStatus, IsAnswerTo, IsFor, Writes, answer_of, status_for}
 use Rattle.contour_run.specs.declared.request.ContourRequest.{ContourRequest}
-
 pub use Rattle.higra_cli.proofs.RunningLemmas.{stopped_other}
 
 -- the status of a request that got its input is that of the input

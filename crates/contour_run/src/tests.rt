@@ -38,7 +38,15 @@ fn runs_failing(
     let mut source = MemSource::new(Vec::from_slice(alloc, input)?, 3, reads);
     let mut out = sink_of(alloc, fails.1)?;
     let mut err = sink_of(alloc, 0)?;
-    let status = run_contours(rt, alloc, &words, &mut source, &mut out, &mut err, &OpenGate);
+    let status = run_contours(
+        rt,
+        alloc,
+        &words,
+        &mut source,
+        &mut out,
+        &mut err,
+        &OpenGate,
+    );
     assert_eq!(rt; status.code(), want.0);
     assert_eq!(rt; out.taken(), want.1);
     assert_eq!(rt; err.taken(), want.2.as_bytes());
@@ -59,10 +67,22 @@ fn runs(
 #[test]
 fn three_by_two(rt: HostRuntime) -> Result<(), Fail> {
     let kinds: [(&str, &[u8]); 4] = [
-        ("--kind=altitude", b"P5\n5 3\n5\n\x00\x05\x00\x01\x00\x01\x05\x02\x02\x00\x00\x05\x00\x02\x00"),
-        ("--kind=area", b"P5\n5 3\n2\n\x00\x02\x00\x00\x00\x00\x02\x00\x00\x00\x00\x02\x00\x00\x00"),
-        ("--kind=volume", b"P5\n5 3\n8\n\x00\x08\x00\x00\x00\x00\x08\x00\x00\x00\x00\x08\x00\x00\x00"),
-        ("--kind=dynamics", b"P5\n5 3\n4\n\x00\x04\x00\x00\x00\x00\x04\x00\x00\x00\x00\x04\x00\x00\x00"),
+        (
+            "--kind=altitude",
+            b"P5\n5 3\n5\n\x00\x05\x00\x01\x00\x01\x05\x02\x02\x00\x00\x05\x00\x02\x00",
+        ),
+        (
+            "--kind=area",
+            b"P5\n5 3\n2\n\x00\x02\x00\x00\x00\x00\x02\x00\x00\x00\x00\x02\x00\x00\x00",
+        ),
+        (
+            "--kind=volume",
+            b"P5\n5 3\n8\n\x00\x08\x00\x00\x00\x00\x08\x00\x00\x00\x00\x08\x00\x00\x00",
+        ),
+        (
+            "--kind=dynamics",
+            b"P5\n5 3\n4\n\x00\x04\x00\x00\x00\x00\x04\x00\x00\x00\x00\x04\x00\x00\x00",
+        ),
     ];
     for (kind, contours) in kinds {
         for tile in ["--tile=1", "--tile=2", "--tile=64"] {
@@ -78,10 +98,26 @@ fn one_line(rt: HostRuntime) -> Result<(), Fail> {
     let row = b"P5\n4 1\n9\n\x00\x01\x05\x07".as_slice();
     let column = b"P5\n1 4\n9\n\x00\x01\x05\x07".as_slice();
     let kinds: [(&str, &[u8], &[u8]); 4] = [
-        ("altitude", b"P5\n7 1\n4\n\x00\x01\x00\x04\x00\x02\x00", b"P5\n1 7\n4\n\x00\x01\x00\x04\x00\x02\x00"),
-        ("area", b"P5\n7 1\n2\n\x00\x00\x00\x02\x00\x00\x00", b"P5\n1 7\n2\n\x00\x00\x00\x02\x00\x00\x00"),
-        ("volume", b"P5\n7 1\n4\n\x00\x00\x00\x04\x00\x00\x00", b"P5\n1 7\n4\n\x00\x00\x00\x04\x00\x00\x00"),
-        ("dynamics", b"P5\n7 1\n2\n\x00\x00\x00\x02\x00\x00\x00", b"P5\n1 7\n2\n\x00\x00\x00\x02\x00\x00\x00"),
+        (
+            "altitude",
+            b"P5\n7 1\n4\n\x00\x01\x00\x04\x00\x02\x00",
+            b"P5\n1 7\n4\n\x00\x01\x00\x04\x00\x02\x00",
+        ),
+        (
+            "area",
+            b"P5\n7 1\n2\n\x00\x00\x00\x02\x00\x00\x00",
+            b"P5\n1 7\n2\n\x00\x00\x00\x02\x00\x00\x00",
+        ),
+        (
+            "volume",
+            b"P5\n7 1\n4\n\x00\x00\x00\x04\x00\x00\x00",
+            b"P5\n1 7\n4\n\x00\x00\x00\x04\x00\x00\x00",
+        ),
+        (
+            "dynamics",
+            b"P5\n7 1\n2\n\x00\x00\x00\x02\x00\x00\x00",
+            b"P5\n1 7\n2\n\x00\x00\x00\x02\x00\x00\x00",
+        ),
     ];
     for (kind, of_row, of_column) in kinds {
         let words = ["--kind", kind];

@@ -67,12 +67,13 @@ fn draw_picture<G: Gate>(
     let planned = plan_pixels(rt, alloc, picture, &graph, request.tile)?;
     let (tree, receipt) = tree_of(rt, alloc, &graph, &planned, request.workers, gate)?;
     let order = &planned.order;
-    let bytes = contours_by(alloc, request.kind, picture, &graph, order, &tree)?;
+    let bytes = contours_by(rt, alloc, request.kind, picture, &graph, order, &tree)?;
     Ok((bytes, receipt))
 }
 
 // The contours of a picture, whose graph, order and tree these are, in the tree of a kind.
 fn contours_by(
+    rt: &(impl Threads + Sync),
     alloc: Global,
     kind: Option<Kind>,
     picture: &Picture,
@@ -86,13 +87,14 @@ fn contours_by(
     ensures { IfOk result (λ bytes. AreContoursIn picture.now (cut_tree kind graph.now) bytes.items) }
 {
     match kind {
-        None => altitude_contours(alloc, picture, graph, tree),
-        Some(kind) => hierarchy_contours(alloc, kind, picture, graph, order, tree),
+        None => altitude_contours(rt, alloc, picture, graph, tree),
+        Some(kind) => hierarchy_contours(rt, alloc, kind, picture, graph, order, tree),
     }
 }
 
 // The contours in the graph's own tree.
 fn altitude_contours(
+    rt: &(impl Threads + Sync),
     alloc: Global,
     picture: &Picture,
     graph: &Graph,
@@ -102,11 +104,12 @@ fn altitude_contours(
     requires tree { IsTreeOf graph.now tree.now }
     ensures { IfOk result (λ bytes. AreContoursIn picture.now (graph_tree graph.now) bytes.items) }
 {
-    draw_contours(alloc, picture, graph, tree)
+    draw_contours(rt, alloc, picture, graph, tree)
 }
 
 // The contours in the graph's hierarchical watershed by a kind.
 fn hierarchy_contours(
+    rt: &(impl Threads + Sync),
     alloc: Global,
     kind: Kind,
     picture: &Picture,
@@ -121,5 +124,5 @@ fn hierarchy_contours(
 {
     let basins = Basins::of(alloc, graph, order, tree)?;
     let hierarchy = basins.hierarchy(alloc, graph, tree, kind)?;
-    draw_contours(alloc, picture, graph, &hierarchy)
+    draw_contours(rt, alloc, picture, graph, &hierarchy)
 }

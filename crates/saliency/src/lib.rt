@@ -7,7 +7,7 @@ mod values;
 
 pub use regions::cut;
 pub use report::{saliency_pieces, write_saliency};
-pub use values::saliency;
+pub use values::{saliency, saliency_in_threads};
 
 #[cfg(test)]
 mod tests;

@@ -3,12 +3,13 @@ ghost use Rattle.hg_base.specs.Levels.{AltitudesRise};
 ghost use Rattle.partition_tree.specs.Ranked.{IsRankedList};
 ghost use Rattle.saliency.specs.Values.{EndsShareRoots};
 
-use super::{cut, saliency, saliency_pieces, write_saliency};
+use super::{cut, saliency, saliency_in_threads, saliency_pieces, write_saliency};
 use hg_base::{Edge, Graph, OutOfMemory};
 use partition_tree::{Ranked, Tree};
 use std::alloc::{AllocError, Global};
 use std::process::Abort;
 use std::test::Fail;
+use std::thread::Threads;
 
 // The edges of graphs in order, from their ends, numbers and altitudes.
 const TRIANGLE: [Ranked; 3] = [
@@ -132,7 +133,7 @@ fn rises(tree: &Tree) -> bool
 }
 
 fn assert_saliency(
-    rt: &impl Abort,
+    rt: &(impl Threads + Sync + Abort),
     alloc: Global,
     n: u32,
     rows: &[(u32, u32, u32)],
@@ -148,6 +149,8 @@ fn assert_saliency(
     let values = saliency(alloc, &graph, &tree)?;
     let text = write_saliency(alloc, &values)?;
     assert_eq!(rt; text.as_slice(), report.as_bytes());
+    let threaded = saliency_in_threads(rt, alloc, &graph, &tree)?;
+    assert_eq!(rt; threaded.as_slice(), values.as_slice());
     Ok(())
 }
 

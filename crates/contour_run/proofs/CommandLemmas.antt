@@ -5,7 +5,9 @@ use Rattle.clap.specs.Words.{App, Row, is_simple, is_simple_and_free}
 use Rattle.clap.proofs.OnLiterals.{clap_on_literals}
 use Rattle.higra_cli.specs.Command.{IsReadable, found_by, with_option}
 use Rattle.higra_cli.specs.Request.{◌>>=◌}
-use Rattle.contour_run.specs.Command.{contours_requested, higra_contours, request_in, rows_on}
+use Rattle.contour_run.specs.Command.{contours_requested, higra_contours, request_in, rows_on, texts_in}
+use Rattle.contour_run.specs.Request.{request_by}
+use Rattle.contour_run.specs.declared.request.ContourRequest.{ContourRequest}
 
 -- `clap` says of such a command what it finds
 contours-simple : is_simple higra_contours ≡ true
@@ -30,10 +32,14 @@ rows_on-found command line found is by = ap (λ (a : App). found_by a line) (sym
 pub lined : {A : Type 0} (f : A → List ℕ) (copy own : List A) (line : List (List ℕ)) → copy ≡ own → map f own ≡ line → map f copy ≡ line
 lined f copy own line same is = ap (λ xs. map f xs) same ∙ is
 
+-- the request of what may be found
+abbrev asked_of : Option (List Row) → Option ContourRequest
+asked_of found = (found >>= (λ rows. Some (texts_in rows))) >>= request_by
+
 -- where something is found in the line of the words, they give its request
 pub asked_some : (words line : List (List ℕ)) (rows : List Row) → line ≡ codes "higra_contours" ∷ words → rows_on line ≡ Some rows → contours_requested words ≡ request_in rows
-asked_some words line rows is found = ap (λ (o : Option (List Row)). o >>= (λ rows. request_in rows)) (ap rows_on (sym is) ∙ found)
+asked_some words line rows is found = ap asked_of (ap rows_on (sym is) ∙ found)
 
 -- and where nothing is, they give none
 pub asked_none : (words line : List (List ℕ)) → line ≡ codes "higra_contours" ∷ words → rows_on line ≡ None → contours_requested words ≡ None
-asked_none words line is found = ap (λ (o : Option (List Row)). o >>= (λ rows. request_in rows)) (ap rows_on (sym is) ∙ found)
+asked_none words line is found = ap asked_of (ap rows_on (sym is) ∙ found)

@@ -1,5 +1,5 @@
 -- The program's command line: what is declared to `clap`, the texts that it finds, and the request that they give.
-use Rattle.std.specs.Prelude.{ℕ, List, ◌∷◌, Option, codes}
+use Rattle.std.specs.Prelude.{ℕ, List, ◌∷◌, Option, Some, codes}
 use Rattle.clap.specs.Words.{App, Row, first_of, new_app}
 use Rattle.higra_cli.specs.Command.{found_by, with_option}
 use Rattle.higra_cli.specs.Request.{◌>>=◌}
@@ -24,12 +24,18 @@ texts_in rows = record {
   seed = first_of (codes "seed") rows;
 }
 
--- the request of what was found
-abbrev pub request_in : List Row → Option ContourRequest
-request_in rows = request_by (texts_in rows)
+-- the texts that the words after the program's name give, where `clap` finds no fault in them
+abbrev pub options_given : List (List ℕ) → Option OptionTexts
+options_given words = do
+  rows ← rows_on (codes "higra_contours" ∷ words)
+  Some (texts_in rows)
 
 -- the request that the words after the program's name give, if they give one
 abbrev pub contours_requested : List (List ℕ) → Option ContourRequest
 contours_requested words = do
-  rows ← rows_on (codes "higra_contours" ∷ words)
-  request_in rows
+  texts ← options_given words
+  request_by texts
+
+-- the request of what was found
+abbrev pub request_in : List Row → Option ContourRequest
+request_in rows = request_by (texts_in rows)

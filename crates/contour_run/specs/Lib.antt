@@ -3,3 +3,4 @@ pub mod Command
 pub mod Given
 pub mod Drawing
 pub mod Running
+pub mod Spelled

@@ -3,6 +3,7 @@
 
 mod command;
 mod drawing;
+pub mod laws;
 mod request;
 mod running;
 

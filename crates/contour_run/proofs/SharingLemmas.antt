@@ -1,5 +1,5 @@
 -- The ends of each edge of a graph are below one root of its hierarchical watersheds.
-use Rattle.std.proofs.Common.{◌≡◌, ℕ, zero, suc, ◌+◌, ◌<◌, ◌≤◌, Bool, true, false, inl, inr, refl, ap, arith, [], ◌∷◌, length}
+use Rattle.std.proofs.Common.{◌≡◌, ℕ, zero, suc, ◌+◌, ◌<◌, ◌≤◌, true, inl, inr, refl, ap, arith, [], ◌∷◌, length}
 use Rattle.std.specs.Prelude.{not}
 use Rattle.std.proofs.lemmas.Bool.{both_ways, cases_Bool, true_from_ne_false}
 use Rattle.hg_base.specs.Edges.{ListedEdge, EdgeList, IsIn, below, is_joining, joined, joins}

@@ -1,4 +1,4 @@
-use Rattle.std.proofs.Common.{◌≡◌, sym, ap, ◌∙◌, Err}
+use Rattle.std.proofs.Common.{sym, ◌∙◌}
 use Rattle.std.proofs.lemmas.Result.{err_from_is_err_and}
 use Rattle.contour_run.proofs.CommandLemmas.{asked_none, asked_some, lined}
 use Rattle.contour_run.proofs.request.contour_request_of.Goals as goal

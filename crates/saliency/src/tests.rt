@@ -1,11 +1,14 @@
 ghost use Rattle.partition_tree.specs.Ranked.{IsRankedList};
 
-use super::{cut, ends_share_roots, saliency, saliency_pieces, write_saliency};
+use super::{
+    cut, ends_share_roots, saliency, saliency_in_threads, saliency_pieces, write_saliency,
+};
 use hg_base::{Edge, Graph, OutOfMemory};
 use partition_tree::{Ranked, Tree};
 use std::alloc::{AllocError, Global};
 use std::process::Abort;
 use std::test::Fail;
+use std::thread::Threads;
 
 // The edges of graphs in order, from their ends, numbers and altitudes.
 const TRIANGLE: [Ranked; 3] = [
@@ -103,7 +106,7 @@ fn graph(
 }
 
 fn assert_saliency(
-    rt: &impl Abort,
+    rt: &(impl Threads + Sync + Abort),
     alloc: Global,
     n: u32,
     rows: &[(u32, u32, u32)],
@@ -120,6 +123,8 @@ fn assert_saliency(
     let values = saliency(alloc, &graph, &tree)?;
     let text = write_saliency(alloc, &values)?;
     assert_eq!(rt; text.as_slice(), report.as_bytes());
+    let threaded = saliency_in_threads(rt, alloc, &graph, &tree)?;
+    assert_eq!(rt; threaded.as_slice(), values.as_slice());
     Ok(())
 }
 

@@ -73,6 +73,7 @@ impl Region {
 
     /// Gives the first free number this cell. It has no hint then. None exactly where no number is free, and then
     /// nothing changes.
+    #[inline(always)]
     pub fn take(&mut self, cell: Cell) -> Option<u32>
         ensures none { IfNone result (self.old.free ≡ []) }
         ensures unchanged { IfNone result (self.new ≡ self.old) }
@@ -103,6 +104,7 @@ impl Region {
     }
 
     /// Takes the cell of a number away. The number is the first free one then.
+    #[inline(always)]
     pub fn give_back(&mut self, id: u32)
         requires { IsUsed self.old id }
         ensures { self.new ≡ with_given_back self.old id }
@@ -115,6 +117,7 @@ impl Region {
     }
 
     /// The cell of a number.
+    #[inline(always)]
     pub fn get(&self, id: u32) -> Cell
         requires { IsUsed self.now id }
         ensures { cell_at self.now id ≡ Some result }
@@ -126,6 +129,7 @@ impl Region {
     }
 
     /// The cell of a number, if it has one.
+    #[inline(always)]
     pub fn cell(&self, id: u32) -> Option<Cell>
         requires { IsCovered self.now id }
         ensures { result ≡ cell_at self.now id }
@@ -137,6 +141,7 @@ impl Region {
     }
 
     /// All that is kept of a number that has a cell, read at once.
+    #[inline(always)]
     pub fn entry(&self, id: u32) -> Entry
         requires { IsUsed self.now id }
         ensures { IsKept self.now id result }
@@ -149,6 +154,7 @@ impl Region {
     }
 
     /// Gives a number that has a cell this one in its place.
+    #[inline(always)]
     pub fn set(&mut self, id: u32, cell: Cell)
         requires { IsUsed self.old id }
         ensures { self.new ≡ with_cell self.old id (Some cell) }
@@ -160,6 +166,7 @@ impl Region {
     }
 
     /// The number of the first cell above a place, if there is one.
+    #[inline(always)]
     pub fn leaf(&self, place: u32) -> Option<u32>
         requires { IsCovered self.now place }
         ensures { result ≡ leaf_of self.now place }
@@ -168,6 +175,7 @@ impl Region {
     }
 
     /// Puts the number of a cell above a place, or none.
+    #[inline(always)]
     pub fn set_leaf(&mut self, place: u32, up: Option<u32>)
         requires { IsCovered self.old place }
         ensures { self.new ≡ with_leaf self.old place up }
@@ -179,6 +187,7 @@ impl Region {
 
     /// How often a number was taken. The count stands still at the greatest `u32`: from then on all cells of the number
     /// have one turn, and a hint of that turn no longer tells which of them it means.
+    #[inline(always)]
     pub fn turn(&self, id: u32) -> u32
         requires { IsCovered self.now id }
         ensures { result ≡ turn_of self.now id }
@@ -187,6 +196,7 @@ impl Region {
     }
 
     /// What is noted at a number of a cell further up.
+    #[inline(always)]
     pub fn hint(&self, id: u32) -> Option<Hint>
         requires { IsCovered self.now id }
         ensures { result ≡ hint_of self.now id }
@@ -195,6 +205,7 @@ impl Region {
     }
 
     /// Notes at a number where a cell further up is, or nothing.
+    #[inline(always)]
     pub fn set_hint(&mut self, id: u32, hint: Option<Hint>)
         requires { IsCovered self.old id }
         ensures { self.new ≡ with_hint self.old id hint }
@@ -205,6 +216,7 @@ impl Region {
     }
 
     /// What is noted at a place of a cell further up.
+    #[inline(always)]
     pub fn finger(&self, place: u32) -> Option<Hint>
         requires { IsCovered self.now place }
         ensures { result ≡ finger_of self.now place }
@@ -213,6 +225,7 @@ impl Region {
     }
 
     /// Notes at a place where a cell further up is, or nothing.
+    #[inline(always)]
     pub fn set_finger(&mut self, place: u32, finger: Option<Hint>)
         requires { IsCovered self.old place }
         ensures { self.new ≡ with_finger self.old place finger }
@@ -223,6 +236,7 @@ impl Region {
     }
 
     /// The cell that a hint means. None where its number isn't one of the pool's, has no cell, or was taken again.
+    #[inline(always)]
     pub fn find(&self, hint: Hint) -> Option<Cell>
         ensures { result ≡ hinted_cell self.now hint }
     {
@@ -237,6 +251,7 @@ impl Region {
     }
 
     /// All that is kept of the number that a hint names. None where the cell that it means isn't there.
+    #[inline(always)]
     pub fn find_entry(&self, hint: Hint) -> Option<Entry>
         ensures found { IfSome result (λ entry. hinted_cell self.now hint ≡ Some entry.cell) }
         ensures kept { IfSome result (IsKept self.now hint.cell) }

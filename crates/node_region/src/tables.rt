@@ -58,6 +58,7 @@ impl Tables {
     }
 
     // Whether the number is one of these.
+    #[inline(always)]
     pub(crate) fn covers(&self, id: u32) -> bool
         ensures { IsTrue result ↔ ((self.now.first ≤ id) × (id < self.now.first + self.now.count)) }
     {
@@ -66,6 +67,7 @@ impl Tables {
 
     // Where the entry of a number is. Most tables are as long as the first, so one multiplication mostly tells which it
     // is; where it doesn't, they are searched.
+    #[inline(always)]
     pub(crate) fn locate(&self, id: u32) -> At
         requires from { self.now.first ≤ id }
         requires below { id < self.now.first + self.now.count }
@@ -121,6 +123,7 @@ impl Tables {
     }
 
     // The entry of a number.
+    #[inline(always)]
     pub(crate) fn slot(&self, at: At) -> Slot
         requires { IsAt self.now.chunks.items at }
         ensures { result ≡ get_or (slots_of self.now.chunks.items) (number_at self.now.chunks.items at) result }
@@ -129,6 +132,7 @@ impl Tables {
     }
 
     // The entry of a place.
+    #[inline(always)]
     pub(crate) fn place(&self, at: At) -> Place
         requires { IsAt self.now.chunks.items at }
         ensures { result ≡ get_or (places_of self.now.chunks.items) (number_at self.now.chunks.items at) result }
@@ -137,6 +141,7 @@ impl Tables {
     }
 
     // Writes the entry of a number.
+    #[inline(always)]
     pub(crate) fn set_slot(&mut self, at: At, slot: Slot)
         requires { IsAt self.old.chunks.items at }
         ensures slots { slots_of self.new.chunks.items ≡ set (slots_of self.old.chunks.items) (number_at self.old.chunks.items at) slot }
@@ -148,6 +153,7 @@ impl Tables {
     }
 
     // Writes the entry of a place.
+    #[inline(always)]
     pub(crate) fn set_place(&mut self, at: At, place: Place)
         requires { IsAt self.old.chunks.items at }
         ensures places { places_of self.new.chunks.items ≡ set (places_of self.old.chunks.items) (number_at self.old.chunks.items at) place }

@@ -104,6 +104,7 @@ fn pass(region: &mut Region, waiting: Option<Met>, here: Met, next: Seen) -> Opt
 
 // Climbs from a cell to the last one of rank below r. Notes of cells further up are taken as short cuts, and every
 // second step makes one over two steps, so that the next climb takes half as many.
+#[inline(always)]
 pub(crate) fn climb(region: &mut Region, start: Seen, r: u32) -> Seen
     requires climbable { IsClimbable region.old start.met.rank }
     requires seen { IsSeen region.old start }
@@ -138,6 +139,7 @@ pub(crate) fn begin(region: &Region, place: u32, r: u32) -> Option<Seen>
 
 // The last cell of rank below r above a place, by a climb from where it begins. It is noted at the place, where the
 // next climb to a higher rank begins.
+#[inline(always)]
 pub(crate) fn last_below(
     region: &mut Region,
     place: u32,

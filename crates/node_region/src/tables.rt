@@ -1,7 +1,7 @@
 ghost use Rattle.std.specs.Prelude.{◌≡◌, ℕ, ◌+◌, ◌-◌, ◌<◌, ◌≤◌, ◌++◌, length, get_or, set, replicate, map, vec_capacity, IfOk, IsTrue, ◌↔◌};
 ghost use Rattle.node_region.specs.Tables.{slots_of, places_of, start_of, number_at, IsAt, AreInRow, AreInRow-prop, fresh_slots, fresh_place};
 
-use crate::chunk::{At, Chunk, FreeList, Place, Slot, State};
+use crate::chunk::{At, Chunk, FreeList, NO_HINT, Place, Slot};
 use std::alloc::{AllocError, Global};
 
 /// Tables one after another: each begins with the number after the last one of the table before it.
@@ -39,8 +39,10 @@ impl Tables {
     {
         let slots = fresh_slots(alloc, first, count)?;
         let place = Place {
-            leaf: None,
-            finger: None,
+            link: 0,
+            linked: false,
+            noted: false,
+            note: NO_HINT,
         };
         let places = vec![in alloc; place; count as usize]?;
         let mut list = Vec::with_capacity(alloc, chunks as usize)?;
@@ -196,8 +198,8 @@ impl Tables {
         }
         let at = self.locate(front.tail);
         let slot = self.slot(at);
-        let state = State::Free(behind.head);
-        self.set_slot(at, Slot { state, ..slot });
+        let link = behind.head;
+        self.set_slot(at, Slot { link, ..slot });
         FreeList {
             count: front.count + behind.count,
             head: front.head,
@@ -227,9 +229,13 @@ fn fresh_slots(alloc: Global, first: u32, count: u32) -> Result<Vec<Slot>, Alloc
     let mut slots = Vec::with_capacity(alloc, count as usize)?;
     for id in first..first + count {
         slots.push(Slot {
-            state: State::Free(id + 1),
+            rank: 0,
+            link: id + 1,
             turn: 0,
-            hint: None,
+            used: false,
+            linked: false,
+            noted: false,
+            note: NO_HINT,
         })?;
     }
     Ok(slots)

@@ -1,8 +1,7 @@
 -- Two parts of an input on either side of a form feed.
-use Rattle.std.proofs.Common.{◌≡◌, ℕ, suc, ◌+◌, ◌-◌, ◌*◌, ◌/◌, ◌<◌, ◌≤◌, refl, sym, ◌∙◌, ap, arith, Bool, true, false, List, [], ◌∷◌, ◌++◌, length, map, take, drop, Option, Some, None, get_or, add-one}
-use Rattle.std.specs.Prelude.{◌==◌, if◌then◌else◌, IfSome, slice_index}
-use Rattle.std.proofs.lemmas.Bool.{eqb-true}
-use Rattle.std.proofs.lemmas.List.{drop_more, get_or-drop, get_or-take, length-drop, length-take, map-append, take-append-drop, take_all}
+use Rattle.std.proofs.Common.{◌≡◌, ℕ, ◌+◌, ◌-◌, ◌<◌, ◌≤◌, refl, sym, ◌∙◌, ap, arith, Bool, true, false, List, [], ◌∷◌, ◌++◌, length, map, take, drop}
+use Rattle.std.specs.Prelude.{◌==◌, slice_index}
+use Rattle.std.proofs.lemmas.List.{drop_more, map-append, take-append-drop}
 use Rattle.hg_batch.specs.Cutting.{reads, values}
 use Rattle.hg_batch.specs.Pieces.{led_by, pieces, reading, readings}
 use Rattle.hg_batch.specs.declared.cutting.Piece.{Piece}

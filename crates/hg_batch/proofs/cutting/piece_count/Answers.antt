@@ -1,6 +1,6 @@
-use Rattle.std.proofs.Common.{◌+◌, sym, arith}
+use Rattle.std.proofs.Common.{sym, arith}
 use Rattle.std.proofs.lemmas.Grind.{common_steps}
-use Rattle.hg_batch.proofs.PieceLemmas.{count_last, count_more, rest_shorter}
+use Rattle.hg_batch.proofs.PieceLemmas.{count_last, count_more}
 use Rattle.hg_batch.proofs.cutting.piece_count.Goals as goal
 
 pub loop-end-preserved : goal.loop-end-preserved

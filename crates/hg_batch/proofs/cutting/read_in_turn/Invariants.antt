@@ -1,5 +1,5 @@
-use Rattle.std.proofs.Common.{◌≡◌, ◌≤◌, ◌++◌, length, map}
-use Rattle.hg_batch.specs.Pieces.{pieces, reading, readings}
+use Rattle.std.proofs.Common.{◌≡◌, ◌≤◌, ◌++◌, length}
+use Rattle.hg_batch.specs.Pieces.{readings}
 use Rattle.hg_batch.specs.Cutting.{values}
 use Rattle.hg_batch.proofs.cutting.read_in_turn.Given as goal
 

@@ -1,4 +1,4 @@
-ghost use Rattle.std.specs.Prelude.{◌≡◌, ℕ, ◌+◌, ◌<◌, ◌≤◌, ◌∷◌, [], ◌++◌, length, map, take, slice_get, Some, IfOk, All};
+ghost use Rattle.std.specs.Prelude.{◌≡◌, ℕ, ◌+◌, ◌<◌, ◌≤◌, ◌∷◌, [], ◌++◌, length, map, take, slice_get, Some, IfOk, IsPermutation, All};
 ghost use Rattle.hg_base.specs.Graph.{JoinsTwo, WeightedGraph, weight};
 ghost use Rattle.edge_order.specs.Order.{order_of, number_at_rank, with_number, without_rank};
 ghost use Rattle.edge_order.specs.Keys.{unpacked};
@@ -10,6 +10,9 @@ use rayon::prelude::*;
 use std::alloc::{AllocError, Global};
 use std::marker::Model;
 use std::thread::Threads;
+
+// Fewer keys are sorted in one thread: others would take longer to start than to sort their share.
+const FEW: usize = 16_384;
 
 /// The edges of a graph in order of rank: by weight, then by number.
 #[derive(Drop)]
@@ -54,8 +57,21 @@ fn sorted_keys(
     ensures rising { IfOk result (λ v. AreRising v.items) }
 {
     let mut keys = keys(alloc, graph)?;
-    par_sort_unstable(rt, &mut keys);
+    sort(rt, &mut keys);
     Ok(keys)
+}
+
+/// Sorts keys, in as many threads as can be had where there are many.
+fn sort(rt: &(impl Threads + Sync), keys: &mut [Key])
+    ensures permutation { IsPermutation keys.old keys.new }
+    ensures len { length keys.new ≡ length keys.old }
+    ensures rising { AreRising keys.new }
+{
+    if keys.len() < FEW {
+        keys.sort_unstable();
+    } else {
+        par_sort_unstable(rt, keys);
+    }
 }
 
 /// The edges by number.

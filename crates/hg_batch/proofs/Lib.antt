@@ -1,4 +1,5 @@
 pub mod PieceLemmas
 pub mod ReadingLemmas
 pub mod RunningLemmas
+pub mod SideLemmas
 pub mod TextLemmas

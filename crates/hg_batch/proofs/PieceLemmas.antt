@@ -3,10 +3,12 @@ use Rattle.std.proofs.Common.{◌≡◌, ℕ, suc, ◌+◌, ◌-◌, ◌<◌, �
 use Rattle.std.specs.Prelude.{◌==◌, if◌then◌else◌, not, nat_lt, position}
 use Rattle.std.specs.List.{count_by, position_or_len}
 use Rattle.std.proofs.Math.Seq.{take-suc}
+use Rattle.std.proofs.lemmas.Bool.{le-ltb, lt-ltb}
 use Rattle.std.proofs.lemmas.Bool.Decides.{nat_tests}
 use Rattle.std.proofs.lemmas.List.{append_assoc, length-drop, map-append, take_all}
 use Rattle.std.proofs.lemmas.List.Quantifiers.{position-Some}
 use Rattle.std.proofs.lemmas.List.Sums.{position_or_len_is, sum_by-cons}
+use Rattle.memchr.specs.Find.{IsFirstByte, is_byte}
 use Rattle.hg_base.specs.declared.fault.InputFault.{InputFault}
 use Rattle.higra_cli.specs.declared.input.Input.{Input}
 use Rattle.hg_batch.specs.Cutting.{reads, values}
@@ -25,10 +27,10 @@ at_later : (b : ℕ) (bs : List ℕ) → (b == 12) ≡ false → position_or_len
 at_later b bs e = let one : position_or_len is_cut (b ∷ bs) ≡ 1 + position_or_len is_cut bs = ap (λ (t : Bool). cond (not t) (1 + position_or_len is_cut bs) 0) e in omega arith
 
 -- the pieces, if the first byte is a form feed, and if it isn't
-pieces_first : (b : ℕ) (bs : List ℕ) → (b == 12) ≡ true → pieces (b ∷ bs) ≡ [] ∷ pieces bs
+pub pieces_first : (b : ℕ) (bs : List ℕ) → (b == 12) ≡ true → pieces (b ∷ bs) ≡ [] ∷ pieces bs
 pieces_first b bs e = ap (λ (t : Bool). if t then [] ∷ pieces bs else led_by b (pieces bs)) e
 
-pieces_later : (b : ℕ) (bs : List ℕ) → (b == 12) ≡ false → pieces (b ∷ bs) ≡ led_by b (pieces bs)
+pub pieces_later : (b : ℕ) (bs : List ℕ) → (b == 12) ≡ false → pieces (b ∷ bs) ≡ led_by b (pieces bs)
 pieces_later b bs e = ap (λ (t : Bool). if t then [] ∷ pieces bs else led_by b (pieces bs)) e
 
 -- where there is a form feed, the first piece is what stands before it, and the others are the pieces of what stands behind
@@ -88,13 +90,38 @@ not_below a b is = grind (arith, nat_tests)
 cut_none : (rest : List ℕ) → position is_cut rest ≡ None → pieces rest ≡ rest ∷ []
 cut_none rest is = cut_nowhere rest (not_below (position_or_len is_cut rest) (length rest) (none_of (nat_lt (position_or_len is_cut rest) (length rest)) (position_or_len is_cut rest) is))
 
+not_true : (t : Bool) → (t ≡ true → ⊥) → t ≡ false
+not_true true h = absurd (h refl)
+not_true false h = refl
+
+-- the place at which a search finds the first form feed is its position
+pub found_first : (bytes : List ℕ) (found : Option ℕ) → IsFirstByte (is_byte 12) bytes found → found ≡ position is_cut bytes
+found_first bytes None nowhere =
+    let at = position_or_len_is is_cut bytes (length bytes) 0 (omega arith) (λ k before. not_true _ (nowhere k (omega arith) before)) (λ within. absurd (omega (arith, within))) in
+    sym (ap (λ (n : ℕ). cond (nat_lt n (length bytes)) (Some n) None) at ∙ ap (λ (t : Bool). cond t (Some (length bytes)) None) (le-ltb (length bytes) (length bytes) (omega arith)))
+found_first bytes (Some end) first =
+    let at = position_or_len_is is_cut bytes end 0 (omega (arith, first.0.high)) (λ k before. not_true _ (first.0.before k (omega arith) before)) (λ within. first.1) in
+    sym (ap (λ (n : ℕ). cond (nat_lt n (length bytes)) (Some n) None) at ∙ ap (λ (t : Bool). cond t (Some end) None) (lt-ltb end (length bytes) first.0.high))
+
+-- a part of a list from a place to its end
+pub take_rest : (n : ℕ) (bs : List ℕ) → take (length bs - n) (drop n bs) ≡ drop n bs
+take_rest n bs = take_all (length bs - n) (drop n bs) (omega (arith, length-drop n bs))
+
+-- one piece was counted
+pub count_more : (rest : List ℕ) (end : ℕ) → position is_cut rest ≡ Some end → length (pieces rest) ≡ 1 + length (pieces (take (length rest - (end + 1)) (drop (end + 1) rest)))
+count_more rest end is =
+    let one : length (pieces rest) ≡ suc (length (pieces (drop (suc end) rest))) = ap (λ (ps : List (List ℕ)). length ps) (cut_some rest end is) in
+    let left : length (pieces (take (length rest - (end + 1)) (drop (end + 1) rest))) ≡ length (pieces (drop (suc end) rest)) =
+    ap (λ (bs : List ℕ). length (pieces bs)) (take_rest (end + 1) rest ∙ ap (λ (n : ℕ). drop n rest) (add-one end)) in
+    omega (arith, one, left)
+
+-- what is left is one piece
+pub count_last : (rest : List ℕ) → position is_cut rest ≡ None → length (pieces rest) ≡ 1
+count_last rest is = ap (λ (ps : List (List ℕ)). length ps) (cut_none rest is)
+
 -- what a list of readings is called here
 abbrev pub Readings : Type 0
 Readings = List (Result Input InputFault)
-
--- a part of a list from a place to its end
-take_rest : (n : ℕ) (bs : List ℕ) → take (length bs - n) (drop n bs) ≡ drop n bs
-take_rest n bs = take_all (length bs - n) (drop n bs) (omega (arith, length-drop n bs))
 
 pub rest_shorter : (n : ℕ) (bs : List ℕ) → length (take (length bs - n) (drop n bs)) ≤ length bs
 rest_shorter n bs = let same = ap (λ (xs : List ℕ). length xs) (take_rest n bs) in omega (arith, same, length-drop n bs)

@@ -1,15 +1,21 @@
 // The pieces of an input, each read as an edge list.
-ghost use Rattle.std.specs.Prelude.{◌≡◌, ◌==◌, ◌<◌, ◌≤◌, [], ◌∷◌, ◌++◌, IfOk, IfSome, OnOk, count_by, length, position};
+ghost use Rattle.std.specs.Prelude.{◌≡◌, ◌==◌, ◌<◌, ◌≤◌, [], ◌∷◌, ◌++◌, IfOk, IfSome, OnOk, length, position, slice_index};
+ghost use Rattle.std.specs.Thread.{IsSync};
 ghost use Rattle.hg_batch.specs.Pieces.{all_vertices, pieces, reading, readings, vertices};
 ghost use Rattle.hg_batch.specs.Cutting.{reads, values};
 
 use graph_reader::read_graph;
 use hg_base::{InputFault, OutOfMemory, ReadError};
 use higra_cli::Input;
+use memchr::{memchr, memrchr};
 use std::alloc::Global;
+use std::thread::{Threads, join};
 
 // The byte at which an input is cut: the form feed.
 const FORM_FEED: u8 = 12;
+
+// Fewer bytes are read by one worker: another would take longer to start than to read its share.
+const SMALL: usize = 65_536;
 
 // A piece of the input, read as an edge list alone.
 #[derive(Drop)]
@@ -19,31 +25,88 @@ pub(crate) enum Piece {
 }
 
 // How many pieces the input has.
-#[tactic(auto, using(crate::proofs::PieceLemmas::count_pieces))]
 pub(crate) fn piece_count(bytes: &[u8]) -> usize
     requires { length bytes.now ≤ 134217728 }
     ensures { result ≡ length (pieces bytes.now) }
 {
-    cut_count(bytes) + 1
+    let mut count = 1;
+    let mut rest = bytes;
+    while let Some(end) = first_cut(rest) {
+        count += 1;
+        rest = &rest[end + 1..];
+    }
+    count
 }
 
-// How many form feeds the input has.
-fn cut_count(bytes: &[u8]) -> usize
+// Reads all pieces of the input by so many workers side by side, each in a thread of its own where one can be had.
+#[cycle(reading)]
+pub(crate) fn read_pieces<R: Threads + Sync>(
+    rt: &R,
+    alloc: Global,
+    bytes: &[u8],
+    workers: u32,
+) -> Result<Vec<Piece>, OutOfMemory>
     requires { length bytes.now ≤ 134217728 }
-    ensures count { result ≡ count_by (λ b. b == 12) bytes.now }
-    ensures few { result ≤ length bytes.now }
+    ensures { IfOk result (λ read. values read.items ≡ readings bytes.now) }
 {
-    bytes.iter().filter(|byte| **byte == FORM_FEED).count()
+    if workers < 2 || bytes.len() < SMALL {
+        return read_in_turn(alloc, bytes);
+    }
+    let half = workers / 2;
+    let others = workers - half;
+    let Some(cut) = cut_near(bytes, share(bytes.len(), workers, half)) else {
+        return read_in_turn(alloc, bytes);
+    };
+    let (front, back) = (&bytes[..cut], &bytes[cut + 1..]);
+    let read_front = || -> Result<Vec<Piece>, OutOfMemory>
+        requires { IsSync R.row × (length front.now ≤ 134217728) }
+        ensures { IfOk result (λ read. values read.items ≡ readings front.entry.now) }
+    { read_pieces(rt, alloc, front, half) };
+    let read_back = || -> Result<Vec<Piece>, OutOfMemory>
+        requires { IsSync R.row × (length back.now ≤ 134217728) }
+        ensures { IfOk result (λ read. values read.items ≡ readings back.entry.now) }
+    { read_pieces(rt, alloc, back, others) };
+    let (front, back) = join(rt, read_front, read_back);
+    both(front?, back?)
 }
 
-// Reads all pieces of the input.
-pub(crate) fn read_pieces(alloc: Global, bytes: &[u8]) -> Result<Vec<Piece>, OutOfMemory>
+// The pieces of two lists in one.
+fn both(mut front: Vec<Piece>, mut back: Vec<Piece>) -> Result<Vec<Piece>, OutOfMemory>
+    ensures { IfOk result (λ all. all.items ≡ front.items ++ back.items) }
+{
+    front.append(&mut back).map_err(|_| OutOfMemory)?;
+    Ok(front)
+}
+
+// The share of so many of the workers in a length.
+fn share(len: usize, workers: u32, some: u32) -> usize
+    requires workers { 1 ≤ workers }
+    requires some { some ≤ workers }
+    ensures { result ≤ len }
+{
+    len / workers as usize * some as usize
+}
+
+// Where a form feed is: the first one from a place on, or else the last one before it.
+fn cut_near(bytes: &[u8], place: usize) -> Option<usize>
+    requires { place ≤ length bytes.now }
+    ensures within { IfSome result (λ cut. cut < length bytes.now) }
+    ensures cut { IfSome result (λ cut. slice_index bytes.now cut ≡ 12) }
+{
+    match memchr(FORM_FEED, &bytes[place..]) {
+        Some(end) => Some(place + end),
+        None => memrchr(FORM_FEED, &bytes[..place]),
+    }
+}
+
+// Reads all pieces of the input one after another.
+fn read_in_turn(alloc: Global, bytes: &[u8]) -> Result<Vec<Piece>, OutOfMemory>
     requires { length bytes.now ≤ 134217728 }
     ensures { IfOk result (λ read. values read.items ≡ readings bytes.now) }
 {
     let mut read = Vec::new(alloc);
     let mut rest = bytes;
-    while let Some(end) = cut_at(rest) {
+    while let Some(end) = first_cut(rest) {
         push_piece(alloc, &mut read, &rest[..end])?;
         rest = &rest[end + 1..];
     }
@@ -52,11 +115,11 @@ pub(crate) fn read_pieces(alloc: Global, bytes: &[u8]) -> Result<Vec<Piece>, Out
 }
 
 // Where the first form feed is, if there is one.
-fn cut_at(bytes: &[u8]) -> Option<usize>
+fn first_cut(bytes: &[u8]) -> Option<usize>
     ensures first { result ≡ position (λ b. b == 12) bytes.now }
     ensures within { IfSome result (λ end. end < length bytes.now) }
 {
-    bytes.iter().position(|byte| *byte == FORM_FEED)
+    memchr(FORM_FEED, bytes)
 }
 
 // Reads one piece and puts it at the end of those that were read.

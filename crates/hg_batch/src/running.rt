@@ -146,7 +146,7 @@ fn text_for(
     if MOST_JOBS < count {
         return Err(refused(FaultKind::TooManyJobs, count as u64));
     }
-    let pieces = read_pieces(alloc, bytes)?;
+    let pieces = read_pieces(rt, alloc, bytes, request.workers)?;
     let vertices = vertex_count(&pieces);
     if MOST_VERTICES < vertices {
         return Err(refused(FaultKind::TooManyVertices, vertices));

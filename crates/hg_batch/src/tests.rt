@@ -56,6 +56,35 @@ fn two_lists(rt: HostRuntime) -> Result<(), Fail> {
     Ok(())
 }
 
+// Lists of many spaces, so long that two workers or more read them side by side. The last piece is empty.
+fn long_lists(alloc: Global) -> Result<Vec<u8>, AllocError> {
+    let spaces = Vec::from_elem(alloc, b' ', 40_000)?;
+    let mut bytes = Vec::new(alloc);
+    for list in [
+        "graph 2 1\n0 1 7\n",
+        "graph 2 1\n0 0 3\n",
+        "graph 2 1\n0 1 9\n",
+        "tree\n",
+    ] {
+        bytes.extend_from_slice(list.as_bytes())?;
+        bytes.extend_from_slice(&spaces)?;
+        bytes.push(12)?;
+    }
+    Ok(bytes)
+}
+
+#[test]
+fn read_side_by_side(rt: HostRuntime) -> Result<(), Fail> {
+    let bytes = long_lists(rt.alloc())?;
+    let texts =
+        "job 0 0 27\ntree 3 2\n0 2 0\n1 2 0\n2 2 7\njob 1 3 7 Loop 12 0\njob 2 0 27\ntree 3 2\n0 2 0\n1 2 0\n2 2 9\njob 3 3 1 UnknownForm 0 0\njob 4 3 1 UnknownForm 0 0\n";
+    for workers in ["1", "3", "64"] {
+        let words = ["tree", "--workers", workers];
+        runs(&rt, rt.alloc(), &words, &bytes, (0, texts, ""))?;
+    }
+    Ok(())
+}
+
 #[test]
 fn refused_or_empty(rt: HostRuntime) -> Result<(), Fail> {
     let alloc = rt.alloc();

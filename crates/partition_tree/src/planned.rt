@@ -19,6 +19,9 @@ use std::alloc::{AllocError, Global};
 use std::thread::Threads;
 use tile_plan::Plan;
 
+// The parents in a tree of fewer edges are found in one thread: others would take longer to start than to do their share.
+const FEW: u32 = 16_384;
+
 impl Tree {
     /// The binary partition tree of the graph of a plan, from the part that took in the lots of all parts of the
     /// plan (Najman, Cousty and Perret, Playing with Kruskal, 2013). The order is that of the same graph. The error
@@ -42,8 +45,8 @@ impl Tree {
         numbered(alloc, order, plan, part).map_err(|_| OutOfMemory)
     }
 
-    /// The same tree as that of `of_part`, whose parents are found in as many threads as can be had. The error is want
-    /// of memory.
+    /// The same tree as that of `of_part`, whose parents are found in as many threads as can be had, where there are many
+    /// edges. The error is want of memory.
     pub fn of_part_in_threads(
         rt: &(impl Threads + Sync),
         alloc: Global,
@@ -61,6 +64,9 @@ impl Tree {
         ensures graph { (g : WeightedGraph) → order.now ≡ order_of g → IfOk result (λ tree. tree ≡ graph_tree g) }
         ensures graph_fronts { (g : WeightedGraph) → order.now ≡ order_of g → IfOk result (λ tree. IsFrontTree tree g.n (ranked g)) }
     {
+        if order.len() < FEW {
+            return Tree::of_part(alloc, order, plan, part);
+        }
         numbered_in_threads(rt, alloc, order, plan, part).map_err(|_| OutOfMemory)
     }
 }

@@ -388,10 +388,10 @@ fn over_plans(rt: HostRuntime) -> Result<(), Fail> {
     Ok(())
 }
 
-// Rows of vertices in three pieces, with edges to the next one and across.
+// Rows of vertices in twelve pieces, with edges to the next one and across: so many that threads are taken.
 fn long_rows(alloc: Global) -> Result<Vec<(u32, u32, u32)>, AllocError> {
     let mut rows = Vec::new(alloc);
-    for v in 0..3000_u32 {
+    for v in 0..12_000_u32 {
         if v % 1000 < 999 {
             rows.push((v, v + 1, v * 7919 % 1009))?;
         }
@@ -405,10 +405,10 @@ fn long_rows(alloc: Global) -> Result<Vec<(u32, u32, u32)>, AllocError> {
 #[test]
 fn one_tree_in_many_threads(rt: HostRuntime) -> Result<(), Fail> {
     let rows = long_rows(rt.alloc())?;
-    let graph = graph_of(&rt, rt.alloc(), 3000, &rows)?;
-    let (tree, threaded) = planned_trees(&rt, rt.alloc(), &graph, 1600)?;
-    // Three components of 1,000 vertices have 999 inner nodes each.
-    assert_eq!(rt; (threaded.nodes(), threaded.roots()), (5997, 3));
+    let graph = graph_of(&rt, rt.alloc(), 12_000, &rows)?;
+    let (tree, threaded) = planned_trees(&rt, rt.alloc(), &graph, 6400)?;
+    // Twelve components of 1,000 vertices have 999 inner nodes each.
+    assert_eq!(rt; (threaded.nodes(), threaded.roots()), (23_988, 12));
     let text = write_tree(rt.alloc(), &tree)?;
     let threaded_text = write_tree(rt.alloc(), &threaded)?;
     assert_eq!(rt; threaded_text.as_slice(), text.as_slice());

@@ -21,6 +21,9 @@ use std::marker::Model;
 use std::snapshot::Snapshot;
 use std::thread::Threads;
 
+// The plan of a graph of fewer edges is made in one thread: others would take longer to start than to do their share.
+const FEW: u32 = 16_384;
+
 // The first place of each tile, and the place of each vertex.
 #[derive(Drop)]
 struct Places {
@@ -111,7 +114,7 @@ impl Plan {
         Plan::over(&InTurn, alloc, graph, order, Frame::row(graph, tile))
     }
 
-    /// `blocks` in as many threads as can be had.
+    /// `blocks` in as many threads as can be had, where the graph has many edges.
     pub fn blocks_in_threads(
         rt: &(impl Threads + Sync),
         alloc: Global,
@@ -123,6 +126,9 @@ impl Plan {
         requires order { order.now ≡ order_of graph.now }
         ensures { IsAnswer (blocks graph.now tile) result }
     {
+        if order.len() < FEW {
+            return Plan::blocks(alloc, graph, order, tile);
+        }
         let threads = InThreads { rt };
         Plan::over(&threads, alloc, graph, order, Frame::row(graph, tile))
     }
@@ -146,7 +152,7 @@ impl Plan {
         Plan::over(&InTurn, alloc, graph, order, frame)
     }
 
-    /// `squares` in as many threads as can be had.
+    /// `squares` in as many threads as can be had, where the graph has many edges.
     pub fn squares_in_threads(
         rt: &(impl Threads + Sync),
         alloc: Global,
@@ -161,6 +167,9 @@ impl Plan {
         requires pixels { width * height ≡ graph.now.n }
         ensures { IsAnswer (squares graph.now width height tile) result }
     {
+        if order.len() < FEW {
+            return Plan::squares(alloc, graph, order, width, height, tile);
+        }
         let threads = InThreads { rt };
         let frame = Frame::picture(graph, width, height, tile);
         Plan::over(&threads, alloc, graph, order, frame)

@@ -121,7 +121,7 @@ fn at_most_65536_tiles(rt: HostRuntime) {
 
 // A path of `n` vertices, whose edges have mixed weights.
 fn path(rt: &impl Abort, alloc: Global, n: u32) -> Result<Graph, AllocError> {
-    assert!(rt; 1 <= n && n <= 4096);
+    assert!(rt; 1 <= n && n <= 65536);
     let mut edges = Vec::new(alloc);
     for u in 0..n - 1 {
         edges.push(Edge {
@@ -195,7 +195,7 @@ fn compare_forms(
     tile: u32,
 ) -> Result<(), PlanFault> {
     assert!(rt; 1 <= tile && 1 <= width && 1 <= height);
-    assert!(rt; u64::from(width) * u64::from(height) <= 4096);
+    assert!(rt; u64::from(width) * u64::from(height) <= 65536);
     let graph = path(rt, alloc, width * height).map_err(|_| PlanFault::OutOfMemory)?;
     let order = Order::of(rt, alloc, &graph).map_err(|_| PlanFault::OutOfMemory)?;
     assert!(rt; width * height == graph.n());
@@ -205,7 +205,13 @@ fn compare_forms(
 
 #[test]
 fn the_same_in_threads(rt: HostRuntime) {
-    for (picture, tile) in [((1, 1), 1), ((2, 1), 1), ((3, 2), 2), ((64, 63), 5)] {
+    for (picture, tile) in [
+        ((1, 1), 1),
+        ((2, 1), 1),
+        ((3, 2), 2),
+        ((64, 63), 5),
+        ((160, 128), 5),
+    ] {
         assert_eq!(rt; compare_forms(&rt, rt.alloc(), picture, tile), Ok(()));
     }
 }

@@ -10,9 +10,9 @@ use Rattle.edge_order.proofs.order.sorted_keys.Goals as goal
 pub returns-clause-keys : goal.returns-clause-keys
 returns-clause-keys g c =
     let keys = c.in_ok-keys.keys.items in
-    let sorted = c.par_sort_unstable.new.s in
+    let sorted = c.sort.new.keys in
     let rest : List Key = drop (length sorted) keys in
-    let long : c.in_ok-keys.keys.len ≡ length sorted = omega (arith, c.in_ok-keys.keys.ok, c.deref_mut.ensures.len, c.par_sort_unstable.ensures.len) in
-    let same = subst (λ (xs : List Key). IsPermutation xs sorted) c.deref_mut.ensures.value c.par_sort_unstable.ensures.permutation in
+    let long : c.in_ok-keys.keys.len ≡ length sorted = omega (arith, c.in_ok-keys.keys.ok, c.deref_mut.ensures.len, c.sort.ensures.len) in
+    let same = subst (λ (xs : List Key). IsPermutation xs sorted) c.deref_mut.ensures.value c.sort.ensures.permutation in
     ap (map unpacked) (ap (λ (n : ℕ). take n (sorted ++ rest)) long ∙ take-append_seam sorted rest)
-    ∙ sorted_keys-unpacked c.args.graph.now keys sorted c.in_ok-keys.ensures same c.par_sort_unstable.ensures.sorted
+    ∙ sorted_keys-unpacked c.args.graph.now keys sorted c.in_ok-keys.ensures same c.sort.ensures.rising

@@ -1,4 +1,4 @@
-use Rattle.std.proofs.Common.{sym, arith}
+use Rattle.std.proofs.Common.{arith}
 use Rattle.hg_batch.proofs.TextLemmas.{length-texts}
 use Rattle.hg_batch.proofs.batch.BatchJob.count.Goals as goal
 

@@ -1,7 +1,7 @@
-use Rattle.std.proofs.Common.{◌≡◌, ◌≤◌, ◌++◌, length, map}
-use Rattle.hg_batch.specs.Pieces.{pieces, reading, readings}
+use Rattle.std.proofs.Common.{◌≡◌, ◌≤◌, ◌++◌, length}
+use Rattle.hg_batch.specs.Pieces.{readings}
 use Rattle.hg_batch.specs.Cutting.{values}
-use Rattle.hg_batch.proofs.cutting.read_pieces.Given as goal
+use Rattle.hg_batch.proofs.cutting.read_in_turn.Given as goal
 
 abbrev pub invariant-loop-end : goal.invariant-loop-end
 invariant-loop-end l = record {

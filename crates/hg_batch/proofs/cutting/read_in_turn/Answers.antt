@@ -1,7 +1,7 @@
 use Rattle.std.proofs.Common.{◌+◌, sym, arith}
 use Rattle.std.proofs.lemmas.Grind.{common_steps}
 use Rattle.hg_batch.proofs.PieceLemmas.{read_last, read_more, rest_shorter}
-use Rattle.hg_batch.proofs.cutting.read_pieces.Goals as goal
+use Rattle.hg_batch.proofs.cutting.read_in_turn.Goals as goal
 
 pub loop-end-preserved : goal.loop-end-preserved
 loop-end-preserved c = record {

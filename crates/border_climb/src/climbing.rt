@@ -20,6 +20,7 @@ pub(crate) struct Seen {
 }
 
 // The cell that a link leads to, if its rank is below r.
+#[inline(always)]
 fn below(region: &Region, link: Option<u32>, r: u32) -> Option<Seen>
     requires { IfSome link (IsUsed region.now) }
     ensures some { IfSome result (λ next. IsBelow region.now link r next.met) }
@@ -39,6 +40,7 @@ fn below(region: &Region, link: Option<u32>, r: u32) -> Option<Seen>
 
 // The cell that a note means, if it is still there and its rank is below r. A note that tells a higher rank is passed
 // over with no look at its cell.
+#[inline(always)]
 fn noted(region: &Region, note: Option<Hint>, r: u32) -> Option<Seen>
     ensures named { IfSome result (λ next. IsNamed region.now note next.met) }
     ensures read { IfSome result (IsRead region.now) }
@@ -65,6 +67,7 @@ fn noted(region: &Region, note: Option<Hint>, r: u32) -> Option<Seen>
 }
 
 // The next cell of rank below r on the way up: the noted one, or the one above.
+#[inline(always)]
 fn ahead(region: &Region, here: Seen, r: u32) -> Option<Seen>
     requires seen { IsSeen region.now here }
     requires climbable { IsClimbable region.now here.met.rank }
@@ -80,6 +83,7 @@ fn ahead(region: &Region, here: Seen, r: u32) -> Option<Seen>
 }
 
 // Notes the next cell at the one that waits; where none does, this cell waits.
+#[inline(always)]
 fn pass(region: &mut Region, waiting: Option<Met>, here: Met, next: Seen) -> Option<Met>
     requires further { IfSome waiting (λ low. IsFurther region.old low next.met) }
     requires turn { turn_of region.old next.met.id ≡ next.entry.turn }
@@ -100,6 +104,7 @@ fn pass(region: &mut Region, waiting: Option<Met>, here: Met, next: Seen) -> Opt
 
 // Climbs from a cell to the last one of rank below r. Notes of cells further up are taken as short cuts, and every
 // second step makes one over two steps, so that the next climb takes half as many.
+#[inline(always)]
 pub(crate) fn climb(region: &mut Region, start: Seen, r: u32) -> Seen
     requires climbable { IsClimbable region.old start.met.rank }
     requires seen { IsSeen region.old start }
@@ -120,6 +125,7 @@ pub(crate) fn climb(region: &mut Region, start: Seen, r: u32) -> Seen
 }
 
 // Where a climb from a place to rank r begins: at the cell that is noted there, or at the first one.
+#[inline(always)]
 pub(crate) fn begin(region: &Region, place: u32, r: u32) -> Option<Seen>
     requires covered { IsCovered region.now place }
     requires sound { IsSound region.now }
@@ -133,6 +139,7 @@ pub(crate) fn begin(region: &Region, place: u32, r: u32) -> Option<Seen>
 
 // The last cell of rank below r above a place, by a climb from where it begins. It is noted at the place, where the
 // next climb to a higher rank begins.
+#[inline(always)]
 pub(crate) fn last_below(
     region: &mut Region,
     place: u32,

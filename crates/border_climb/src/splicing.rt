@@ -21,6 +21,7 @@ pub(crate) struct Seam {
 }
 
 // What stands above the last cell of a place's chain, or above the place itself where there is none.
+#[inline(always)]
 fn up(region: &Region, place: u32, last: Option<u32>) -> Option<u32>
     requires place { IsCovered region.now place }
     requires last { IfSome last (IsUsed region.now) }
@@ -33,6 +34,7 @@ fn up(region: &Region, place: u32, last: Option<u32>) -> Option<u32>
 }
 
 // Puts another number there.
+#[inline(always)]
 fn set_up(region: &mut Region, place: u32, last: Option<u32>, up: Option<u32>)
     requires place { IsCovered region.old place }
     requires last { IfSome last (IsUsed region.old) }
@@ -48,6 +50,7 @@ fn set_up(region: &mut Region, place: u32, last: Option<u32>, up: Option<u32>)
 }
 
 // Puts another number above a cell.
+#[inline(always)]
 fn link(region: &mut Region, id: u32, up: Option<u32>)
     requires { IsUsed region.old id }
     ensures { region.new ≡ with_up region.old 0 (Some id) up }
@@ -149,6 +152,7 @@ fn merge(region: &mut Region, seam: Seam) -> Given
 }
 
 // Whether both are one cell.
+#[inline(always)]
 fn are_one(first: Option<u32>, second: Option<u32>) -> bool
     ensures one { IsTrue result → (id : ℕ) × ((first ≡ Some id) × (second ≡ Some id)) }
     ensures never { (id : ℕ) → first ≡ Some id → second ≡ Some id → IsTrue result }

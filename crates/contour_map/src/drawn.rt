@@ -8,13 +8,16 @@ use crate::picture::write_contours;
 use hg_base::{Graph, OutOfMemory};
 use partition_tree::Tree;
 use pgm_reader::Picture;
-use saliency::saliency;
+use saliency::saliency_in_threads;
 use std::alloc::Global;
+use std::thread::Threads;
 
 /// The contours of a picture in a tree over its pixels, as the bytes of a PGM picture: of its contour map by the saliency of
 /// each edge of its graph, the altitude of the lowest common ancestor of the edge's ends. The graph is the picture's, the
-/// leaves of the tree are its pixels, and the ends of each edge must have one root. The error is want of memory.
+/// leaves of the tree are its pixels, and the ends of each edge must have one root. The saliencies are found in threads. The error
+/// is want of memory.
 pub fn draw_contours(
+    rt: &(impl Threads + Sync),
     alloc: Global,
     picture: &Picture,
     graph: &Graph,
@@ -25,7 +28,7 @@ pub fn draw_contours(
     requires roots { EndsShareRoots graph.now tree.now }
     ensures { IfOk result (λ bytes. AreContoursIn picture.now tree.now bytes.items) }
 {
-    let values = saliency(alloc, graph, tree)?;
+    let values = saliency_in_threads(rt, alloc, graph, tree)?;
     let map = ContourMap::of(alloc, picture.width(), picture.height(), &values)?;
     write_contours(alloc, &map)
 }

@@ -1,19 +1,8 @@
 ghost use Rattle.std.specs.Prelude.{◌≡◌, ◌<◌, ◌≤◌, ◌^◌, All, length};
 ghost use Rattle.hg_base.specs.Graph.{weight};
 ghost use Rattle.watershed_cut.specs.Rooted.{cost};
-ghost use Rattle.forest_witness.specs.Reading.{IsRead};
 
 use hg_base::Graph;
-
-/// Reads each edge, so that what a graph keeps to is known of it.
-pub(crate) fn read_edges(graph: &Graph)
-    ensures { IsRead graph.now }
-{
-    let _ = graph.n();
-    for e in 0..graph.m() {
-        let _ = graph.edge(e);
-    }
-}
 
 /// The sum of the weights of the edges with these numbers.
 pub(crate) fn total_weight(graph: &Graph, edges: &[u32]) -> u64

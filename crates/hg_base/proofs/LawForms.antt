@@ -63,7 +63,7 @@ splice-elsewhere e s x k h lt out =
     next-elsewhere e s h x k lt
     (untrue (below s k) x e.u (λ j. out (inl j))) (untrue (below s k) x e.v (λ j. out (inr j)))
 
-at_end-from : (e : ListedEdge) (s : EdgeList) (k x : ℕ) → IsAtEnd e s k x → (joined (below s k) x e.u || joined (below s k) x e.v) ≡ true
+pub at_end-from : (e : ListedEdge) (s : EdgeList) (k x : ℕ) → IsAtEnd e s k x → (joined (below s k) x e.u || joined (below s k) x e.v) ≡ true
 at_end-from e s k x (inl j) = or_left _ _ (holds (below s k) x e.u j)
 at_end-from e s k x (inr j) = or_right _ _ (holds (below s k) x e.v j)
 

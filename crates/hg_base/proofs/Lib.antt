@@ -26,6 +26,7 @@ pub mod Pigeons
 pub mod Ranks
 pub mod Ranked
 pub mod LawForms
+pub mod Exactly
 pub mod Lines
 pub mod Climbs
 pub mod Tops

@@ -1,6 +1,8 @@
 -- Lines that are written number by number.
-use Rattle.std.proofs.Common.{◌≡◌, ℕ, zero, suc, ◌+◌, ◌<◌, ◌≤◌, ◌++◌, List, [], ◌∷◌, length, get_or, drop, refl, sym, ◌∙◌, ap, decimal, arith, append_assoc, add-one, drop-cons}
+use Rattle.std.proofs.Common.{◌≡◌, ℕ, zero, suc, ◌+◌, ◌-◌, ◌<◌, ◌≤◌, ◌++◌, List, [], ◌∷◌, length, get_or, take, drop, Some, Result, Ok, Err, OnErr, refl, sym, ◌∙◌, ap, decimal, arith, append_assoc, add-one, drop-cons, length-append}
+use Rattle.std.proofs.Math.Seq.{take-append_seam, take-append-add}
 use Rattle.std.proofs.Math.ListN.{drop_of_length-le}
+use Rattle.hg_base.specs.Outside.{AppendsPrefix}
 use Rattle.hg_base.specs.Text.{line}
 
 -- what is to be written of a line once some numbers stand, where ns are those that are left
@@ -44,3 +46,31 @@ pub line_end : (t all ns : List ℕ) (i : ℕ) → length ns ≤ i → t ++ rest
 line_end t all [] zero h e = e
 line_end t all (n ∷ ns) zero h e = absurd (omega arith)
 line_end t all ns (suc k) h e = let d : drop (suc k) ns ≡ [] = drop_of_length-le ns h in ap (λ r. t ++ rest_of_line (suc k) r) (sym d) ∙ e
+
+-- what is no shorter than the old text, and begins the old text and the line, appended a prefix of the line
+pub prefix-of_line : (old new rest bytes : List ℕ) → new ++ rest ≡ old ++ bytes → length old ≤ length new → AppendsPrefix (Some old) (Some new) bytes
+prefix-of_line old new rest bytes whole longer =
+    let n = length new - length old in
+    let len : length old + n ≡ length new = omega arith in
+    let all : length new + length rest ≡ length old + length bytes = omega (arith, length-append new rest, length-append old bytes, ap length whole) in (
+      n,
+      (let fits : n ≤ length bytes = omega arith in fits),
+      sym (take-append_seam new rest) ∙ ap (take (length new)) whole ∙ ap (λ k. take k (old ++ bytes)) (sym len) ∙ take-append-add old bytes n,
+    )
+
+-- nothing of the old text is gone where more is appended
+pub longer-append : (old text more : List ℕ) → length old ≤ length text → length old ≤ length (text ++ more)
+longer-append old text more h = omega (arith, h, length-append text more)
+
+-- a prefix of what comes behind some bytes is one of them all
+pub prefix-behind : (old middle new before bytes : List ℕ) → middle ≡ old ++ before → AppendsPrefix (Some middle) (Some new) bytes → AppendsPrefix (Some old) (Some new) (before ++ bytes)
+prefix-behind old middle new before bytes same h = (
+  length before + h.0,
+  omega (arith, h.1, length-append before bytes),
+  h.2 ∙ ap (λ t. t ++ take h.0 bytes) same ∙ append_assoc old before (take h.0 bytes) ∙ ap (λ t. old ++ t) (sym (take-append-add before bytes h.0)),
+)
+
+-- what holds anyway holds after an error
+pub on_err : {T E P : Type 0} (r : Result T E) → P → OnErr r P
+on_err (Ok x) p = tt
+on_err (Err e) p = p

@@ -1,5 +1,6 @@
 pub mod Graph
 pub mod GraphFields
+pub mod GraphFaults
 pub mod Edges
 pub mod Rank
 pub mod Tree

@@ -1,7 +1,6 @@
 -- What one more edge of any rank does to the chains of a list.
 use Rattle.std.specs.Prelude.{ℕ, ◌<◌, ◌⊎◌, Option, Some, None}
 use Rattle.hg_base.specs.Edges.{ListedEdge, EdgeList, Joined, below}
-use Rattle.hg_base.specs.Saliency.{MeetFirst}
 
 -- e leads out of the component of x: the edges of lower rank join x to one of its ends
 abbrev pub LeadsOut : EdgeList → ℕ → ListedEdge → Type 0
@@ -19,7 +18,3 @@ IsAtEnd e s k x = Joined (below s k) x e.u ⊎ Joined (below s k) x e.v
 -- e's ends are joined by edges of lower rank
 abbrev pub IsRedundant : ListedEdge → EdgeList → Type 0
 IsRedundant e s = Joined (below s e.rank) e.u e.v
-
--- f is a joining edge of s, and not the one that first joined e's ends
-abbrev pub IsKept : ListedEdge → EdgeList → ListedEdge → Type 0
-IsKept e s f = ¬ MeetFirst s e.u e.v f

@@ -2,7 +2,7 @@
 use Rattle.std.specs.Prelude.{◌≡◌, ◌↔◌, ℕ, zero, suc, ◌+◌, ◌<◌, List, ◌++◌, length, map, replicate, Option, Some, None, unwrap_or, slice_get}
 use Rattle.std.specs.List.{range_with_len}
 use Rattle.hg_base.specs.Graph.{WeightedGraph}
-use Rattle.hg_base.specs.Edges.{ListedEdge, EdgeList, Joined, below, joins, next}
+use Rattle.hg_base.specs.Edges.{ListedEdge, EdgeList, IsIn, Joined, below, joins, next}
 use Rattle.hg_base.specs.Rank.{ranked}
 
 -- A tree as a list of parents: nodes 0 to leaves - 1 are the leaves, and a root is its own parent.
@@ -62,3 +62,7 @@ pub record IsFrontTree (t : ParentTree) (n : ℕ) (s : EdgeList) : Type 0 where
   pub each_component : (k x : ℕ) → x < n → (i : ℕ) × ((i < length t.parents) × HasComponent t n s i k x)
   pub once : (k x i j : ℕ) → x < n → i < length t.parents → j < length t.parents → HasComponent t n s i k x → HasComponent t n s j k x → i ≡ j
   pub each_node : (i : ℕ) → i < length t.parents → (k : ℕ) × ((x : ℕ) × ((x < n) × HasComponent t n s i k x))
+
+-- the listed numbers are exactly the leaves below node i
+abbrev pub AreLeavesBelow : ParentTree → ℕ → List ℕ → Type 0
+AreLeavesBelow t i leaves = (y : ℕ) → (IsIn y leaves ↔ ((y < t.leaves) × IsAbove t i y))

@@ -1,5 +1,7 @@
-ghost use Rattle.std.specs.Prelude.{◌≡◌};
-ghost use Rattle.hg_base.specs.Fault.{number_of};
+ghost use Rattle.std.specs.Prelude.{◌≡◌, Some};
+ghost use Rattle.hg_base.specs.Fault.{number_of, name_of, input_words};
+
+use std::fmt;
 
 /// A read or a write of the outside failed.
 #[derive(Clone, Copy, Debug, PartialEq, Eq)]
@@ -52,6 +54,37 @@ impl FaultKind {
             FaultKind::TooManyVertices => 16,
         }
     }
+
+    /// The kind's name in fault lines.
+    pub fn name(&self) -> &'static str
+        ensures { result.now ≡ name_of self.now }
+    {
+        match self {
+            FaultKind::UnknownForm => "UnknownForm",
+            FaultKind::BadNumber => "BadNumber",
+            FaultKind::TooLarge => "TooLarge",
+            FaultKind::Truncated => "Truncated",
+            FaultKind::Trailing => "Trailing",
+            FaultKind::OutOfRange => "OutOfRange",
+            FaultKind::Loop => "Loop",
+            FaultKind::NoVertex => "NoVertex",
+            FaultKind::SampleAboveMax => "SampleAboveMax",
+            FaultKind::TooLong => "TooLong",
+            FaultKind::NotAPicture => "NotAPicture",
+            FaultKind::TooManyTiles => "TooManyTiles",
+            FaultKind::TooManyLabels => "TooManyLabels",
+            FaultKind::TooManyJobs => "TooManyJobs",
+            FaultKind::TooManyVertices => "TooManyVertices",
+        }
+    }
+}
+
+impl fmt::Display for FaultKind {
+    ghost output = { λ kind. Some (name_of kind) };
+
+    fn fmt<W: fmt::Write>(&self, f: &mut fmt::Formatter<W>) -> fmt::Result {
+        f.write_str(self.name())
+    }
 }
 
 /// A fault of an input: its kind, its place in bytes from the start of the input, and the number that it is about.
@@ -62,9 +95,23 @@ pub struct InputFault {
     pub value: u64,
 }
 
+impl fmt::Display for InputFault {
+    // as in the fault line
+    ghost output = { λ fault. Some (input_words fault) };
+
+    fn fmt<W: fmt::Write>(&self, f: &mut fmt::Formatter<W>) -> fmt::Result {
+        let InputFault { kind, at, value } = *self;
+        let number = kind.number();
+        write!(f, "input {number} {kind} at {at} value {value}")
+    }
+}
+
 /// Why an input wasn't read.
 #[derive(Clone, Copy, Debug, PartialEq, Eq)]
 pub enum ReadError {
     Fault(InputFault),
     OutOfMemory,
 }
+
+#[cfg(test)]
+mod tests;

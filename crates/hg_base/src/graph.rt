@@ -1,6 +1,8 @@
-ghost use Rattle.std.specs.Prelude.{◌≡◌, ℕ, ◌<◌, ◌≤◌, length, slice_get, Some};
+ghost use Rattle.std.specs.Prelude.{◌≡◌, ◌↔◌, ℕ, ◌<◌, ◌≤◌, length, slice_get, Some, All, IfOk, IfErr, IsOk};
 ghost use Rattle.hg_base.specs.Graph.{IsGraph, JoinsTwo, with_unit_areas};
+ghost use Rattle.hg_base.specs.GraphFaults.{IsGraphFault};
 
+use super::graph_fault::{GraphFault, first_fault};
 use std::marker::Model;
 
 /// An edge of a graph: its two ends and its weight. Its number is its place in the graph's list.
@@ -70,6 +72,20 @@ impl Graph {
         }
     }
 
+    /// The graph with these edges, in which each vertex has the area 1, where they are those of a graph. Else what is wrong
+    /// first: with the number of vertices, with that of edges, or with the first edge that doesn't join two vertices. It
+    /// takes no memory.
+    pub fn from_edges(n: u32, edges: Vec<Edge>) -> Result<Graph, GraphFault>
+        ensures graph { IfOk result (λ graph. graph ≡ with_unit_areas n edges.items) }
+        ensures accepted { IsOk result ↔ IsGraph (with_unit_areas n edges.items) }
+        ensures fault { IfErr result (IsGraphFault n edges.items) }
+    {
+        match first_fault(n, &edges) {
+            Some(fault) => Err(fault),
+            None => Ok(Graph::new(n, edges)),
+        }
+    }
+
     /// The graph with these areas, one for each vertex, and these edges.
     pub fn with_areas(n: u32, areas: Vec<u32>, edges: Vec<Edge>) -> Graph
         requires { IsGraph (record { n = n; areas = areas.items; edges = edges.items }) }
@@ -98,6 +114,15 @@ impl Graph {
         ensures edges { result ≤ 4194304 }
     {
         self.edges.len() as u32
+    }
+
+    /// The edges, each at the place of its number.
+    pub fn edges(&self) -> &[Edge]
+        ensures value { result.now ≡ self.now.edges }
+        ensures edges { length result.now ≤ 4194304 }
+        ensures ends { All (JoinsTwo self.now.n) result.now }
+    {
+        &self.edges
     }
 
     /// The edge with this number.

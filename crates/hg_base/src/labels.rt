@@ -1,4 +1,4 @@
-ghost use Rattle.std.specs.Prelude.{◌≡◌, ◌<◌, ◌≤◌, length, slice_get, Some};
+ghost use Rattle.std.specs.Prelude.{◌≡◌, ◌<◌, ◌≤◌, length, slice_get, Some, All};
 ghost use Rattle.hg_base.specs.Labels.{IsLabel, IsLabelling};
 
 use std::marker::Model;
@@ -55,5 +55,13 @@ impl Labels {
         ensures range { IsLabel self.now.count result }
     {
         self.labels[v as usize]
+    }
+
+    /// The label of each vertex.
+    pub fn as_slice(&self) -> &[u32]
+        ensures value { result.now ≡ self.now.labels }
+        ensures range { All (IsLabel self.now.count) result.now }
+    {
+        &self.labels
     }
 }

@@ -1,9 +1,11 @@
 //! Laws of the definitions. Each is the contract of a function that does nothing.
-ghost use Rattle.std.specs.Prelude.{◌≡◌, ◌↔◌, ◌⊎◌, ℕ, suc, ◌+◌, ◌<◌, ◌≤◌, Bool, true, false, ◌∷◌, ◌++◌, length, Some, IsTrue};
+ghost use Rattle.std.specs.Prelude.{◌≡◌, ◌↔◌, ◌⊎◌, ℕ, suc, ◌+◌, ◌<◌, ◌≤◌, Bool, true, false, List, ◌∷◌, ◌++◌, length, Some, IsTrue};
+ghost use Rattle.std.specs.List.Sorted.{IsStrictlyIncreasing};
 ghost use Rattle.hg_base.specs.Graph.{WeightedGraph, IsGraph, first_end, second_end};
-ghost use Rattle.hg_base.specs.Edges.{ListedEdge, EdgeList, IsIn, IsSameSet, AreApart, AreWithin, Joined, joined, below, joins, chain, next, merged, components, ShareBelow, renamed, IsOneToOne};
-ghost use Rattle.hg_base.specs.Rank.{rank, listed, ranked};
-ghost use Rattle.hg_base.specs.Tree.{ParentTree, altitude, IsAbove, IsFrontTree, tree_of, graph_tree, place};
+ghost use Rattle.hg_base.specs.Edges.{ListedEdge, EdgeList, IsIn, IsSameSet, AreApart, AreWithin, Joined, joined, component, below, joins, chain, next, merged, components, ShareBelow, renamed, IsOneToOne};
+ghost use Rattle.hg_base.specs.Rank.{rank, listed, ranked, front};
+ghost use Rattle.hg_base.specs.Rising.{IsRising};
+ghost use Rattle.hg_base.specs.Tree.{ParentTree, altitude, IsAbove, AreLeavesBelow, IsFrontTree, tree_of, graph_tree, place};
 ghost use Rattle.hg_base.specs.Saliency.{IsLowestAbove, IsSaliency, MeetFirst};
 ghost use Rattle.hg_base.specs.SideBySide.{SideBySide};
 ghost use Rattle.hg_base.specs.Splice.{IsRedundant, LeadsOut, ComesAfter, IsAtEnd};
@@ -20,6 +22,16 @@ pub fn joined_is_an_equivalence()
     ensures on { (s : EdgeList) (x y z : ℕ) → Joined s x y → Joined s y z → Joined s x z }
     ensures grows { (s t : EdgeList) (x y : ℕ) → ((e : ListedEdge) → IsIn e s → IsIn e t) → Joined s x y → Joined t x y }
     ensures by_set { (s t : EdgeList) (x y : ℕ) → IsSameSet s t → (Joined s x y ↔ Joined t x y) }
+{}
+
+/// The joining edges are exactly those of the list whose ends aren't joined by edges of lower rank, and the chain of a
+/// vertex exactly the joining edges one of whose ends edges of lower rank join to it. Both are in rising rank, so that
+/// each edge is there once.
+pub fn joining_edges_and_chains()
+    ensures joining { (e : ListedEdge) (s : EdgeList) → IsIn e (joins s) ↔ (IsIn e s × ¬ IsRedundant e s) }
+    ensures joining_rise { (s : EdgeList) → AreApart s → IsRising (joins s) }
+    ensures chains { (e : ListedEdge) (s : EdgeList) (x : ℕ) → IsIn e (chain s x) ↔ (IsIn e (joins s) × IsAtEnd e s e.rank x) }
+    ensures chains_rise { (s : EdgeList) (x : ℕ) → AreApart s → IsRising (chain s x) }
 {}
 
 /// The joining edges and the chains depend on the set of edges alone.
@@ -89,6 +101,24 @@ pub fn tree_is_a_front_tree()
     ensures leaf_altitudes { (n x : ℕ) (s : EdgeList) → x < n → altitude (tree_of n s) x ≡ 0 }
     ensures inner_altitudes { (n : ℕ) (s : EdgeList) (e : ListedEdge) → AreApart s → IsIn e (joins s) →
         altitude (tree_of n s) (n + place s e) ≡ e.weight }
+{}
+
+/// The component of a vertex is the vertices that are joined to it, in rising order, each once.
+pub fn component_of_a_vertex()
+    ensures members { (n : ℕ) (s : EdgeList) (x y : ℕ) → IsIn y (component n s x) ↔ ((y < n) × Joined s x y) }
+    ensures rising { (n : ℕ) (s : EdgeList) (x : ℕ) → IsStrictlyIncreasing (component n s x) }
+{}
+
+/// The front k of a graph holds its ranked edges of rank below k, and the components of the fronts are exactly the
+/// leaves below the nodes of the graph's tree, each once.
+pub fn components_of_the_fronts()
+    ensures front { (g : WeightedGraph) (k : ℕ) (e : ListedEdge) → IsIn e (front g k) ↔ (IsIn e (ranked g) × (e.rank < k)) }
+    ensures each_component { (g : WeightedGraph) (k x : ℕ) → IsGraph g → x < g.n →
+        (i : ℕ) × ((i < length (graph_tree g).parents) × AreLeavesBelow (graph_tree g) i (component g.n (front g k) x)) }
+    ensures each_node { (g : WeightedGraph) (i : ℕ) → IsGraph g → i < length (graph_tree g).parents →
+        (k : ℕ) × ((x : ℕ) × ((x < g.n) × AreLeavesBelow (graph_tree g) i (component g.n (front g k) x))) }
+    ensures once { (g : WeightedGraph) (i j : ℕ) (leaves : List ℕ) → IsGraph g → i < length (graph_tree g).parents → j < length (graph_tree g).parents →
+        AreLeavesBelow (graph_tree g) i leaves → AreLeavesBelow (graph_tree g) j leaves → i ≡ j }
 {}
 
 /// The saliency of an edge is the altitude of the lowest common ancestor of its ends.

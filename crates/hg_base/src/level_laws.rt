@@ -32,7 +32,9 @@ pub fn shared_where_joined()
         x < t.leaves → y < t.leaves → shares t level x y ≡ joined (at_most s level) x y }
 {}
 
-/// The zones of a level tree are the components of the edges of weight at most k, for every k.
+/// Each component of the edges of weight at most k, for every k, is the leaves below exactly one node of the zones of a
+/// level tree, and the leaves below each inner node of the zones are a component of the edges of weight at most its
+/// altitude.
 pub fn zones_are_components()
     ensures { (t : ParentTree) (s : EdgeList) → IsClimbing t → AltitudesRise t → t.leaves ≤ length t.parents →
         ((x : ℕ) → x < t.leaves → altitude t x ≡ 0) → IsLevelTree t s → AreZones (zones_of t) t.leaves s }

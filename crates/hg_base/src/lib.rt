@@ -4,6 +4,7 @@
 mod fault;
 mod gate;
 mod graph;
+mod graph_fault;
 mod labels;
 pub mod laws;
 pub mod level_laws;
@@ -20,6 +21,7 @@ mod worked_levels;
 pub use fault::{Failed, FaultKind, InputFault, OutOfMemory, ReadError};
 pub use gate::{Gate, GateEvent, OpenGate};
 pub use graph::{Edge, Graph, PlacedEdge, RankedEdge, Room};
+pub use graph_fault::GraphFault;
 pub use labels::Labels;
 pub use memory::{MemSink, MemSource, QuietSource, TallySink};
 pub use numbering::{Numbering, number_keys};

@@ -124,21 +124,5 @@ impl FaultLine {
 pub fn kind_name(kind: FaultKind) -> &'static str
     ensures { result.now ≡ name_of kind }
 {
-    match kind {
-        FaultKind::UnknownForm => "UnknownForm",
-        FaultKind::BadNumber => "BadNumber",
-        FaultKind::TooLarge => "TooLarge",
-        FaultKind::Truncated => "Truncated",
-        FaultKind::Trailing => "Trailing",
-        FaultKind::OutOfRange => "OutOfRange",
-        FaultKind::Loop => "Loop",
-        FaultKind::NoVertex => "NoVertex",
-        FaultKind::SampleAboveMax => "SampleAboveMax",
-        FaultKind::TooLong => "TooLong",
-        FaultKind::NotAPicture => "NotAPicture",
-        FaultKind::TooManyTiles => "TooManyTiles",
-        FaultKind::TooManyLabels => "TooManyLabels",
-        FaultKind::TooManyJobs => "TooManyJobs",
-        FaultKind::TooManyVertices => "TooManyVertices",
-    }
+    kind.name()
 }

@@ -12,7 +12,7 @@ use Rattle.node_region.specs.declared.chunk.FreeList.{FreeList}
 use Rattle.node_region.specs.declared.tables.Tables.{Tables}
 use Rattle.node_region.specs.declared.region.Region.TheInside.{Inside}
 use Rattle.node_region.specs.Pool.{IsPool, IsNextTo, appended, fresh_pool}
-use Rattle.node_region.specs.Tables.{slots_of, places_of, cells_in, links_in, cell_of, link_of, next_of, free_in, IsTail, fresh_slot, fresh_slots, fresh_place}
+use Rattle.node_region.specs.Tables.{slots_of, places_of, cells_in, links_in, cell_of, hint_kept, leaf_kept, finger_kept, next_of, free_in, IsTail, fresh_slot, fresh_slots, fresh_place}
 use Rattle.node_region.specs.Kept.{CanLink, IsLinked}
 use Rattle.node_region.specs.RegionFields.{pool_of, IsRegion}
 use Rattle.node_region.proofs.Threads.{thread-length, thread-moved, told-moved, thread-longer, thread-rising, told-rising}
@@ -29,7 +29,7 @@ pub record TablesOfBoth (r q : Inside) (t : Tables) : Type 0 where
   pub capacity : vec_capacity r.tables.chunks ≤ vec_capacity t.chunks
 
 links-both : (r q : Inside) (t : Tables) → TablesOfBoth r q t → links_in (slots_of t.chunks.items) ≡ links_in (slots_of r.tables.chunks.items) ++ links_in (slots_of q.tables.chunks.items)
-links-both r q t b = ap links_in b.slots ∙ map-append (λ x. link_of x.state) (slots_of r.tables.chunks.items) (slots_of q.tables.chunks.items)
+links-both r q t b = ap links_in b.slots ∙ map-append (λ x. x.link) (slots_of r.tables.chunks.items) (slots_of q.tables.chunks.items)
 
 -- the numbers of the first region tell what they told
 left-tells : (r q : Inside) → IsRegion r → (t : Tables) → TablesOfBoth r q t → (i : ℕ) → IsIn i (pool_of r).free
@@ -38,8 +38,8 @@ left-tells r q h t b i is =
     let l = links_in (slots_of r.tables.chunks.items) in
     let m = links_in (slots_of q.tables.chunks.items) in
     let at = h.pool.free_is_covered i is in
-    let long = length-map (slots_of r.tables.chunks.items) (λ x. link_of x.state) in
-    let cells = length-map (slots_of r.tables.chunks.items) (λ x. cell_of x.state) in
+    let long = length-map (slots_of r.tables.chunks.items) (λ x. x.link) in
+    let cells = length-map (slots_of r.tables.chunks.items) (λ x. cell_of x) in
     ap (λ k. next_of k (links_in (slots_of t.chunks.items)) i) b.first ∙ ap (λ xs. next_of r.tables.first xs i) (links-both r q t b)
     ∙ get_or_append_left l m 0 (i - r.tables.first) (omega (arith, at.0, at.1, long, cells))
 
@@ -50,8 +50,8 @@ right-tells r q k n t b i is =
     let l = links_in (slots_of r.tables.chunks.items) in
     let m = links_in (slots_of q.tables.chunks.items) in
     let at = k.pool.free_is_covered i is in
-    let long = length-map (slots_of r.tables.chunks.items) (λ x. link_of x.state) in
-    let cells = length-map (slots_of r.tables.chunks.items) (λ x. cell_of x.state) in
+    let long = length-map (slots_of r.tables.chunks.items) (λ x. x.link) in
+    let cells = length-map (slots_of r.tables.chunks.items) (λ x. cell_of x) in
     let next : q.tables.first ≡ r.tables.first + length l = omega (arith, n.next, long, cells) in
     let place : i - r.tables.first - length l ≡ i - q.tables.first = omega (arith, next) in
     ap (λ j. next_of j (links_in (slots_of t.chunks.items)) i) b.first ∙ ap (λ xs. next_of r.tables.first xs i) (links-both r q t b)
@@ -75,7 +75,7 @@ moved-tail r h t tells k more =
     ∙ h.tail k more
 
 cells-both : (r q : Inside) (t : Tables) → TablesOfBoth r q t → cells_in (slots_of t.chunks.items) ≡ (pool_of r).cells ++ (pool_of q).cells
-cells-both r q t b = ap cells_in b.slots ∙ map-append (λ x. cell_of x.state) (slots_of r.tables.chunks.items) (slots_of q.tables.chunks.items)
+cells-both r q t b = ap cells_in b.slots ∙ map-append (λ x. cell_of x) (slots_of r.tables.chunks.items) (slots_of q.tables.chunks.items)
 
 -- the two lists of free numbers can be linked
 pub both-can_link : (r q : Inside) → IsRegion r → IsRegion q → IsNextTo (pool_of r) (pool_of q) → (t : Tables) → TablesOfBoth r q t → CanLink t r.free q.free
@@ -84,7 +84,7 @@ both-can_link r q h k n t b =
     let lists : free_in t.first (slots_of t.chunks.items) r.free ++ free_in t.first (slots_of t.chunks.items) q.free ≡ (pool_of r).free ++ (pool_of q).free =
     ap (λ xs. xs ++ free_in t.first (slots_of t.chunks.items) q.free) (left-free r q h t b) ∙ ap (λ xs. (pool_of r).free ++ xs) (right-free r q k n t b) in
     let cells = cells-both r q t b in
-    let long : length (slots_of t.chunks.items) ≡ length ((pool_of r).cells ++ (pool_of q).cells) = sym (length-map (slots_of t.chunks.items) (λ x. cell_of x.state)) ∙ ap length cells in
+    let long : length (slots_of t.chunks.items) ≡ length ((pool_of r).cells ++ (pool_of q).cells) = sym (length-map (slots_of t.chunks.items) (λ x. cell_of x)) ∙ ap length cells in
     let counted : r.free.count + q.free.count ≡ count_by is_none ((pool_of r).cells ++ (pool_of q).cells) =
     omega (
       arith,
@@ -117,13 +117,13 @@ appended-seen r q h k n t b u f w =
     let seen : pool_of (region_with r f u) ≡ appended (pool_of r) (pool_of q) = pool-same _ _ (record {
       first = w.kept.first ∙ b.first;
       cells = w.cells ∙ cells-both r q t b;
-      leafs = ap (λ xs. map (λ x. x.leaf) xs) (w.places ∙ b.places) ∙ map-append (λ (x : Place). x.leaf) (places_of r.tables.chunks.items) (places_of q.tables.chunks.items);
+      leafs = ap (λ xs. map (λ x. leaf_kept x) xs) (w.places ∙ b.places) ∙ map-append (λ (x : Place). leaf_kept x) (places_of r.tables.chunks.items) (places_of q.tables.chunks.items);
       free = w.free ∙ ap (λ xs. xs ++ free_in t.first (slots_of t.chunks.items) q.free) (left-free r q h t b) ∙ ap (λ xs. (pool_of r).free ++ xs) (right-free r q k n t b);
       chunks = w.kept.chunks ∙ b.chunks;
       room = refl;
       turns = w.turns ∙ ap (λ xs. map (λ x. x.turn) xs) b.slots ∙ map-append (λ (x : Slot). x.turn) a c;
-      hints = w.hints ∙ ap (λ xs. map (λ x. x.hint) xs) b.slots ∙ map-append (λ (x : Slot). x.hint) a c;
-      fingers = ap (λ xs. map (λ x. x.finger) xs) (w.places ∙ b.places) ∙ map-append (λ (x : Place). x.finger) (places_of r.tables.chunks.items) (places_of q.tables.chunks.items);
+      hints = w.hints ∙ ap (λ xs. map (λ x. hint_kept x) xs) b.slots ∙ map-append (λ (x : Slot). hint_kept x) a c;
+      fingers = ap (λ xs. map (λ x. finger_kept x) xs) (w.places ∙ b.places) ∙ map-append (λ (x : Place). finger_kept x) (places_of r.tables.chunks.items) (places_of q.tables.chunks.items);
     }) in
     (seen, record { pool = subst (λ p. IsPool p) (sym seen) (appended-pool (pool_of r) (pool_of q) h.pool k.pool n); tail = w.tail; capacity = omega (arith, h.capacity, b.capacity, w.kept.capacity) })
 
@@ -153,14 +153,14 @@ fresh-seen first n room some few range some_chunk few_chunks t at slots places o
     let up = λ (i : ℕ) (low : first ≤ i) (high : i < first + n). fresh-tells first n i low high in
     let seen : pool_of v ≡ fresh_pool first n room = pool-same _ _ (record {
       first = at;
-      cells = ap cells_in slots ∙ fresh-field (λ x. cell_of x.state) None (λ i. refl) first n;
-      leafs = ap (λ xs. map (λ x. x.leaf) xs) places ∙ fresh-place_field (λ x. x.leaf) n;
+      cells = ap cells_in slots ∙ fresh-field (λ x. cell_of x) None (λ i. refl) first n;
+      leafs = ap (λ xs. map (λ x. leaf_kept x) xs) places ∙ fresh-place_field (λ x. leaf_kept x) n;
       free = rw (at, slots, long, head) (thread-rising first (links_in (fresh_slots first n)) n first up);
       chunks = one;
       room = refl;
       turns = ap (λ xs. map (λ x. x.turn) xs) slots ∙ fresh-field (λ x. x.turn) 0 (λ i. refl) first n;
-      hints = ap (λ xs. map (λ x. x.hint) xs) slots ∙ fresh-field (λ x. x.hint) None (λ i. refl) first n;
-      fingers = ap (λ xs. map (λ x. x.finger) xs) places ∙ fresh-place_field (λ x. x.finger) n;
+      hints = ap (λ xs. map (λ x. hint_kept x) xs) slots ∙ fresh-field (λ x. hint_kept x) None (λ i. refl) first n;
+      fingers = ap (λ xs. map (λ x. finger_kept x) xs) places ∙ fresh-place_field (λ x. finger_kept x) n;
     }) in (
       seen,
       record {

@@ -1,14 +1,15 @@
 -- One list of free numbers put behind another.
-use Rattle.std.proofs.Common.{◌≡◌, ◌≢◌, ℕ, suc, ◌+◌, ◌-◌, ◌≤◌, inl, inr, List, [], ◌∷◌, ◌++◌, set, map, None, refl, sym, ap, ◌∙◌, subst, arith}
+use Rattle.std.proofs.Common.{◌≡◌, ◌≢◌, ℕ, suc, ◌+◌, ◌-◌, ◌≤◌, inl, inr, List, [], ◌∷◌, ◌++◌, set, map, Some, None, false, refl, sym, ap, ◌∙◌, subst, arith}
+use Rattle.std.proofs.lemmas.Bool.{cases_Bool}
 use Rattle.std.proofs.lemmas.List.{length-map}
 use Rattle.hg_base.specs.Edges.{IsIn}
 use Rattle.hg_base.proofs.Components.{IsIn-append}
-use Rattle.node_region.specs.declared.chunk.State.TheVariants.{Free}
+use Rattle.node_region.specs.declared.cell.Cell.{Cell}
 use Rattle.node_region.specs.declared.chunk.Slot.{Slot}
 use Rattle.node_region.specs.declared.chunk.FreeList.{FreeList}
 use Rattle.node_region.specs.declared.tables.Tables.{Tables}
 use Rattle.node_region.specs.Pool.{AreDifferent}
-use Rattle.node_region.specs.Tables.{slots_of, places_of, cells_in, links_in, cell_of, link_of, next_of, thread, told_after, free_in, IsTail}
+use Rattle.node_region.specs.Tables.{slots_of, places_of, cells_in, links_in, cell_of, hint_kept, next_of, thread, told_after, free_in, IsTail}
 use Rattle.node_region.specs.Kept.{KeepsTables, IsFree, CanLink, IsLinked}
 use Rattle.node_region.proofs.Threads.{thread-last, thread-longer, told-in, told-same, thread-same, thread-kept, thread-split, told-split, different-front, different-apart}
 use Rattle.node_region.proofs.Entries.{next-set_same, entry-read}
@@ -22,9 +23,9 @@ both front behind = record { count = front.count + behind.count; head = front.he
 pub linked : (first : ℕ) (slots : List Slot) (front behind : FreeList) (k b : ℕ) → front.count ≡ suc k → behind.count ≡ suc b
     → IsTail first slots front → IsTail first slots behind → AreDifferent (free_in first slots front ++ free_in first slots behind)
     → ((i : ℕ) → IsIn i (free_in first slots front ++ free_in first slots behind) → first ≤ i)
-    → (n : ℕ) (s y : Slot) → IsEntry first slots n front.tail s → y.state ≡ Free behind.head
+    → (n : ℕ) (s y : Slot) → IsEntry first slots n front.tail s → y.link ≡ behind.head
     → (free_in first (set slots n y) (both front behind) ≡ free_in first slots front ++ free_in first slots behind) × IsTail first (set slots n y) (both front behind)
-linked first slots front behind k b some more tail behind_tail once from n s y e state =
+linked first slots front behind k b some more tail behind_tail once from n s y e link =
     let l = links_in slots in
     let m = links_in (set slots n y) in
     let fi = free_in first slots front in
@@ -42,8 +43,8 @@ linked first slots front behind k b some more tail behind_tail once from n s y e
     (from i (IsIn-append i fi bi (inr is)), λ same. different-apart fi bi once i (subst (λ (j : ℕ). IsIn j fi) (sym same) in_front) is) in
     let same_front = others-tell_same first slots n front.tail s y e (thread first l k front.head) apart_front in
     let same_behind = others-tell_same first slots n front.tail s y e bi apart_behind in
-    let told : next_of first m front.tail ≡ behind.head = ap (λ x. next_of first x front.tail) (field-written (λ x. link_of x.state) first slots n front.tail s y e)
-    ∙ next-set_same first l front.tail (link_of y.state) low (omega (arith, e.number, e.within, length-map slots (λ x. link_of x.state))) ∙ ap link_of state in
+    let told : next_of first m front.tail ≡ behind.head = ap (λ x. next_of first x front.tail) (field-written (λ x. x.link) first slots n front.tail s y e)
+    ∙ next-set_same first l front.tail y.link low (omega (arith, e.number, e.within, length-map slots (λ x. x.link))) ∙ link in
     let reached : next_of first m (told_after first m k front.head) ≡ behind.head = ap (λ i. next_of first m i) (told-same first l m k front.head same_front ∙ at) ∙ told in
     let sum : front.count + behind.count ≡ suc (k + behind.count) = omega (arith, some) in (
       ap (λ c. thread first m c front.head) sum ∙ thread-split first m k behind.count front.head
@@ -69,24 +70,38 @@ tail-free t front behind can some =
     subst (λ (i : ℕ). IsIn i (free_in first (slots_of t.chunks.items) front)) at (subst (λ (c : ℕ). IsIn (told_after first l k front.head) (thread first l c front.head)) (sym more) (told-in first l k front.head)) in
     can.free front.tail (IsIn-append front.tail (free_in first (slots_of t.chunks.items) front) (free_in first (slots_of t.chunks.items) behind) (inl here))
 
+-- an entry tells no cell exactly where it isn't used
+none-unused : (s : Slot) → cell_of s ≡ None → s.used ≡ false
+none-unused s none = elim (cases_Bool s.used) [
+  | inl used ↦ absurd (some-none _ (rw used at none))
+  | inr unused ↦ unused
+]
+  where
+    some-none : (c : Cell) → Some c ≡ None → ⊥
+    some-none c same = cc
+
+unused-none : (s : Slot) → s.used ≡ false → cell_of s ≡ None
+unused-none s unused = rw unused refl
+
 -- the entry of the last number of the first list was written
 pub linked-written : (t u : Tables) (front behind : FreeList) → CanLink t front behind → front.count ≢ 0 → behind.count ≢ 0
     → (n : ℕ) (s y : Slot) → IsEntry t.first (slots_of t.chunks.items) n front.tail s → KeepsTables t u
     → slots_of u.chunks.items ≡ set (slots_of t.chunks.items) n y → places_of u.chunks.items ≡ places_of t.chunks.items
-    → y.state ≡ Free behind.head → y.turn ≡ s.turn → y.hint ≡ s.hint → IsLinked t front behind u (both front behind)
-linked-written t u front behind can some more n s y e kept slots places state turn hint =
+    → y.used ≡ s.used → y.link ≡ behind.head → y.turn ≡ s.turn → hint_kept y ≡ hint_kept s → IsLinked t front behind u (both front behind)
+linked-written t u front behind can some more n s y e kept slots places used link turn hint =
     let first = t.first in
     let old = slots_of t.chunks.items in
     let free = tail-free t front behind can some in
-    let none : cell_of s.state ≡ None = sym (entry-read (λ x. cell_of x.state) first old n front.tail s e.number e.within e.read) ∙ free.no_cell in
-    let link = linked first old front behind (front.count - 1) (behind.count - 1) (omega (arith, some)) (omega (arith, more)) can.tail can.behind_tail can.apart (λ i is. (can.free i is).from) n s y e state in
+    let none : cell_of s ≡ None = sym (entry-read (λ x. cell_of x) first old n front.tail s e.number e.within e.read) ∙ free.no_cell in
+    let cell : cell_of y ≡ cell_of s = unused-none y (used ∙ none-unused s none) ∙ sym none in
+    let one = linked first old front behind (front.count - 1) (behind.count - 1) (omega (arith, some)) (omega (arith, more)) can.tail can.behind_tail can.apart (λ i is. (can.free i is).from) n s y e link in
     record {
       kept = kept;
       places = places;
-      cells = ap cells_in slots ∙ field-kept (λ x. cell_of x.state) first old n front.tail s y e (ap cell_of state ∙ sym none);
+      cells = ap cells_in slots ∙ field-kept (λ x. cell_of x) first old n front.tail s y e cell;
       turns = ap (λ xs. map (λ x. x.turn) xs) slots ∙ field-kept (λ x. x.turn) first old n front.tail s y e turn;
-      hints = ap (λ xs. map (λ x. x.hint) xs) slots ∙ field-kept (λ x. x.hint) first old n front.tail s y e hint;
-      free = ap (λ k. free_in k (slots_of u.chunks.items) (both front behind)) kept.first ∙ ap (λ xs. free_in first xs (both front behind)) slots ∙ link.0;
+      hints = ap (λ xs. map (λ x. hint_kept x) xs) slots ∙ field-kept (λ x. hint_kept x) first old n front.tail s y e hint;
+      free = ap (λ k. free_in k (slots_of u.chunks.items) (both front behind)) kept.first ∙ ap (λ xs. free_in first xs (both front behind)) slots ∙ one.0;
       count = refl;
-      tail = rw (kept.first, slots) link.1;
+      tail = rw (kept.first, slots) one.1;
     }

@@ -56,6 +56,7 @@ cells-written p h id covered o free turns hints as_turns as_hints none rest once
       range = h.range;
       some_chunk = h.some_chunk;
       few_chunks = h.few_chunks;
+      no_empty_chunk = omega (arith, h.no_empty_chunk, long);
       chunk_room = h.chunk_room;
       free_is_covered = λ i is. let at = (none i is).0 in (at.0, omega (arith, at.1, long));
       free_has_no_cell = λ i is. (none i is).1;
@@ -137,6 +138,7 @@ others-written p h leafs hints fingers as_leafs as_hints as_fingers = record {
   range = h.range;
   some_chunk = h.some_chunk;
   few_chunks = h.few_chunks;
+  no_empty_chunk = h.no_empty_chunk;
   chunk_room = h.chunk_room;
   free_is_covered = h.free_is_covered;
   free_has_no_cell = h.free_has_no_cell;
@@ -169,6 +171,7 @@ fresh_pool-pool first n room some few range some_chunk few_chunks =
       range = range;
       some_chunk = omega arith;
       few_chunks = some_chunk;
+      no_empty_chunk = omega (arith, long, some);
       chunk_room = few_chunks;
       free_is_covered = λ i is. let at = rising-from first n i is in (at.0, omega (arith, at.1, long));
       free_has_no_cell = λ i is. let at = rising-from first n i is in
@@ -194,6 +197,7 @@ appended-pool p q h k n =
       range = h.range;
       some_chunk = omega (arith, h.some_chunk);
       few_chunks = n.chunks;
+      no_empty_chunk = omega (arith, h.no_empty_chunk, k.no_empty_chunk, long);
       chunk_room = h.chunk_room;
       free_is_covered = λ i is. elim (IsIn-append_back i p.free q.free is) [
         | inl front ↦ let at = h.free_is_covered i front in (at.0, omega (arith, at.1, long))

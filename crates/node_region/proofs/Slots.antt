@@ -5,7 +5,7 @@ use Rattle.std.proofs.Math.Seq.{map-set_same}
 use Rattle.hg_base.specs.Edges.{IsIn}
 use Rattle.node_region.specs.declared.chunk.Slot.{Slot}
 use Rattle.node_region.specs.declared.chunk.FreeList.{FreeList}
-use Rattle.node_region.specs.Tables.{links_in, link_of, next_of, thread, free_in, IsTail}
+use Rattle.node_region.specs.Tables.{links_in, next_of, thread, free_in, IsTail}
 use Rattle.node_region.proofs.Threads.{TellSame, thread-kept, told-same, thread-longer}
 use Rattle.node_region.proofs.Entries.{next-set_other}
 
@@ -29,8 +29,8 @@ field-kept f first xs n id s y e same = map-set_same f xs n y s (same ∙ ap f e
 pub others-tell_same : (first : ℕ) (slots : List Slot) (n id : ℕ) (s y : Slot) → IsEntry first slots n id s → (is : List ℕ)
     → ((i : ℕ) → IsIn i is → (first ≤ i) × (i ≢ id)) → TellSame first (links_in slots) (links_in (set slots n y)) is
 others-tell_same first slots n id s y e is apart i here =
-    let written = field-written (λ x. link_of x.state) first slots n id s y e in
-    ap (λ l. next_of first l i) written ∙ next-set_other first (links_in slots) id i (link_of y.state) (omega (arith, e.number)) (apart i here).0 (apart i here).1
+    let written = field-written (λ x. x.link) first slots n id s y e in
+    ap (λ l. next_of first l i) written ∙ next-set_other first (links_in slots) id i y.link (omega (arith, e.number)) (apart i here).0 (apart i here).1
 
 -- a list of free numbers without that of the entry stays
 pub free-kept : (first : ℕ) (slots : List Slot) (n id : ℕ) (s y : Slot) → IsEntry first slots n id s → (free : FreeList)

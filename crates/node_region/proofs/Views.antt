@@ -4,14 +4,13 @@ use Rattle.std.proofs.lemmas.List.{length-map, get_or-map}
 use Rattle.hg_base.specs.Edges.{IsIn}
 use Rattle.node_region.specs.declared.cell.Cell.{Cell}
 use Rattle.node_region.specs.declared.cell.Hint.{Hint}
-use Rattle.node_region.specs.declared.chunk.State.TheVariants.{Used}
 use Rattle.node_region.specs.declared.chunk.Slot.{Slot}
 use Rattle.node_region.specs.declared.chunk.Place.{Place}
 use Rattle.node_region.specs.declared.chunk.FreeList.{FreeList}
 use Rattle.node_region.specs.declared.tables.Tables.{Tables}
 use Rattle.node_region.specs.declared.region.Region.TheInside.{Inside}
 use Rattle.node_region.specs.Pool.{CellPool, IsPool, IsCovered, IsUsed, IsKept, cell_at, turn_of, hint_of, leaf_of, finger_of, hinted_cell, with_cell, with_leaf, with_hint, with_finger}
-use Rattle.node_region.specs.Tables.{slots_of, places_of, cells_in, cell_of, link_of, thread, told_after, free_in, IsTail}
+use Rattle.node_region.specs.Tables.{slots_of, places_of, cells_in, cell_of, hint_kept, leaf_kept, finger_kept, thread, told_after, free_in, IsTail}
 use Rattle.node_region.specs.Kept.{KeepsTables}
 use Rattle.node_region.specs.RegionFields.{pool_of, IsRegion}
 use Rattle.node_region.proofs.Entries.{entry-read}
@@ -22,15 +21,15 @@ use Rattle.node_region.proofs.PoolLaws.{used-not_free, with_cell-pool, with_leaf
 -- a number of the range, as the tables count them
 pub covered-within : (r : Inside) (id : ℕ) → IsCovered (pool_of r) id → (r.tables.first ≤ id) × (id < r.tables.first + r.tables.count)
 covered-within r id at =
-    let long = length-map (slots_of r.tables.chunks.items) (λ s. cell_of s.state) in
+    let long = length-map (slots_of r.tables.chunks.items) (λ s. cell_of s) in
     (at.0, omega (arith, at.1, long, r.tables.counted))
 
 -- what stands at a number
-pub cell-read : (r : Inside) (n id : ℕ) (s : Slot) → IsEntry r.tables.first (slots_of r.tables.chunks.items) n id s → cell_at (pool_of r) id ≡ cell_of s.state
-cell-read r n id s e = entry-read (λ x. cell_of x.state) r.tables.first (slots_of r.tables.chunks.items) n id s e.number e.within e.read
+pub cell-read : (r : Inside) (n id : ℕ) (s : Slot) → IsEntry r.tables.first (slots_of r.tables.chunks.items) n id s → cell_at (pool_of r) id ≡ cell_of s
+cell-read r n id s e = entry-read (λ x. cell_of x) r.tables.first (slots_of r.tables.chunks.items) n id s e.number e.within e.read
 
-pub hint-read : (r : Inside) (n id : ℕ) (s : Slot) → IsEntry r.tables.first (slots_of r.tables.chunks.items) n id s → hint_of (pool_of r) id ≡ s.hint
-hint-read r n id s e = entry-read (λ x. x.hint) r.tables.first (slots_of r.tables.chunks.items) n id s e.number e.within e.read
+pub hint-read : (r : Inside) (n id : ℕ) (s : Slot) → IsEntry r.tables.first (slots_of r.tables.chunks.items) n id s → hint_of (pool_of r) id ≡ hint_kept s
+hint-read r n id s e = entry-read (λ x. hint_kept x) r.tables.first (slots_of r.tables.chunks.items) n id s e.number e.within e.read
 
 turn-is : (first : ℕ) (turns : List ℕ) (id : ℕ) → first ≤ id → (if nat_le first id then get_or turns (id - first) 0 else 0) ≡ get_or turns (id - first) 0
 turn-is first turns id low = grind arith
@@ -42,15 +41,15 @@ turn-read r n id s e =
     ∙ rw place (get_or-map (λ (x : Slot). x.turn) (slots_of r.tables.chunks.items) n s 0 e.within ∙ ap (λ (x : Slot). x.turn) (sym e.read))
 
 -- all that is kept of a number that has a cell
-pub kept-read : (r : Inside) (n id : ℕ) (s : Slot) → IsEntry r.tables.first (slots_of r.tables.chunks.items) n id s → (c : Cell) → s.state ≡ Used c
-    → IsKept (pool_of r) id (record { cell = c; turn = s.turn; hint = s.hint })
-kept-read r n id s e c used = record { cell = cell-read r n id s e ∙ ap cell_of used; turn = turn-read r n id s e; hint = hint-read r n id s e }
+pub kept-read : (r : Inside) (n id : ℕ) (s : Slot) → IsEntry r.tables.first (slots_of r.tables.chunks.items) n id s → (c : Cell) (hint : Option Hint) → cell_of s ≡ Some c → hint ≡ hint_kept s
+    → IsKept (pool_of r) id (record { cell = c; turn = s.turn; hint = hint })
+kept-read r n id s e c hint used noted = record { cell = cell-read r n id s e ∙ used; turn = turn-read r n id s e; hint = hint-read r n id s e ∙ sym noted }
 
-pub leaf-read : (r : Inside) (n place : ℕ) (p : Place) → IsEntry r.tables.first (places_of r.tables.chunks.items) n place p → leaf_of (pool_of r) place ≡ p.leaf
-leaf-read r n place p e = entry-read (λ x. x.leaf) r.tables.first (places_of r.tables.chunks.items) n place p e.number e.within e.read
+pub leaf-read : (r : Inside) (n place : ℕ) (p : Place) → IsEntry r.tables.first (places_of r.tables.chunks.items) n place p → leaf_of (pool_of r) place ≡ leaf_kept p
+leaf-read r n place p e = entry-read (λ x. leaf_kept x) r.tables.first (places_of r.tables.chunks.items) n place p e.number e.within e.read
 
-pub finger-read : (r : Inside) (n place : ℕ) (p : Place) → IsEntry r.tables.first (places_of r.tables.chunks.items) n place p → finger_of (pool_of r) place ≡ p.finger
-finger-read r n place p e = entry-read (λ x. x.finger) r.tables.first (places_of r.tables.chunks.items) n place p e.number e.within e.read
+pub finger-read : (r : Inside) (n place : ℕ) (p : Place) → IsEntry r.tables.first (places_of r.tables.chunks.items) n place p → finger_of (pool_of r) place ≡ finger_kept p
+finger-read r n place p e = entry-read (λ x. finger_kept x) r.tables.first (places_of r.tables.chunks.items) n place p e.number e.within e.read
 
 -- the entry of a number was written
 pub record SlotWritten (r : Inside) (t : Tables) (n id : ℕ) (s y : Slot) : Type 0 where
@@ -77,20 +76,20 @@ IsSeenAs r q = (pool_of r ≡ q) × IsRegion r
 pub slot-seen : (r : Inside) → IsRegion r → (t : Tables) (n id : ℕ) (s y : Slot) → SlotWritten r t n id s y → (f : FreeList)
     → (cells : List (Option Cell)) (free turns : List ℕ) (hints : List (Option Hint))
     → cells_in (set (slots_of r.tables.chunks.items) n y) ≡ cells → free_in r.tables.first (set (slots_of r.tables.chunks.items) n y) f ≡ free
-    → map (λ x. x.turn) (set (slots_of r.tables.chunks.items) n y) ≡ turns → map (λ x. x.hint) (set (slots_of r.tables.chunks.items) n y) ≡ hints
+    → map (λ x. x.turn) (set (slots_of r.tables.chunks.items) n y) ≡ turns → map (λ x. hint_kept x) (set (slots_of r.tables.chunks.items) n y) ≡ hints
     → IsPool (record (pool_of r) { cells = cells; free = free; turns = turns; hints = hints }) → IsTail r.tables.first (set (slots_of r.tables.chunks.items) n y) f
     → IsSeenAs (region_with r f t) (record (pool_of r) { cells = cells; free = free; turns = turns; hints = hints })
 slot-seen r h t n id s y w f cells free turns hints as_cells as_free as_turns as_hints pool tail =
     let seen : pool_of (region_with r f t) ≡ record (pool_of r) { cells = cells; free = free; turns = turns; hints = hints } = pool-same _ _ (record {
       first = w.kept.first;
       cells = ap cells_in w.slots ∙ as_cells;
-      leafs = ap (λ xs. map (λ p. p.leaf) xs) w.places;
+      leafs = ap (λ xs. map (λ p. leaf_kept p) xs) w.places;
       free = ap (λ k. free_in k (slots_of t.chunks.items) f) w.kept.first ∙ ap (λ xs. free_in r.tables.first xs f) w.slots ∙ as_free;
       chunks = w.kept.chunks;
       room = refl;
       turns = ap (λ xs. map (λ x. x.turn) xs) w.slots ∙ as_turns;
-      hints = ap (λ xs. map (λ x. x.hint) xs) w.slots ∙ as_hints;
-      fingers = ap (λ xs. map (λ p. p.finger) xs) w.places;
+      hints = ap (λ xs. map (λ x. hint_kept x) xs) w.slots ∙ as_hints;
+      fingers = ap (λ xs. map (λ p. finger_kept p) xs) w.places;
     }) in
     (seen, record { pool = subst (λ q. IsPool q) (sym seen) pool; tail = rw (w.kept.first, w.slots) tail; capacity = omega (arith, h.capacity, w.kept.capacity) })
 
@@ -100,71 +99,71 @@ free-apart r h id used i is = ((h.pool.free_is_covered i is).0, λ same. used-no
 
 -- a number has another cell in place of its own
 pub cell-seen : (r : Inside) → IsRegion r → (t : Tables) (n id : ℕ) (s y : Slot) → SlotWritten r t n id s y → (c : Cell) → IsUsed (pool_of r) id
-    → y.state ≡ Used c → y.turn ≡ s.turn → y.hint ≡ s.hint → IsSeenAs (region_with r r.free t) (with_cell (pool_of r) id (Some c))
-cell-seen r h t n id s y w c used state turn hint =
+    → cell_of y ≡ Some c → y.turn ≡ s.turn → hint_kept y ≡ hint_kept s → IsSeenAs (region_with r r.free t) (with_cell (pool_of r) id (Some c))
+cell-seen r h t n id s y w c used cell turn hint =
     let first = r.tables.first in
     let slots = slots_of r.tables.chunks.items in
     slot-seen r h t n id s y w r.free _ _ _ _
-    (field-written (λ x. cell_of x.state) first slots n id s y w.entry ∙ ap (λ o. set (cells_in slots) (id - first) (cell_of o)) state)
+    (field-written (λ x. cell_of x) first slots n id s y w.entry ∙ ap (λ o. set (cells_in slots) (id - first) o) cell)
     (free-kept first slots n id s y w.entry r.free (free-apart r h id used))
     (field-kept (λ x. x.turn) first slots n id s y w.entry turn)
-    (field-kept (λ x. x.hint) first slots n id s y w.entry hint)
+    (field-kept (λ x. hint_kept x) first slots n id s y w.entry hint)
     (with_cell-pool (pool_of r) h.pool id used c)
     (tail-kept first slots n id s y w.entry r.free (free-apart r h id used) h.tail)
 
 -- something else is noted at a number
 pub hint-seen : (r : Inside) → IsRegion r → (t : Tables) (n id : ℕ) (s y : Slot) → SlotWritten r t n id s y → (hint : Option Hint)
-    → y.state ≡ s.state → y.turn ≡ s.turn → y.hint ≡ hint → IsSeenAs (region_with r r.free t) (with_hint (pool_of r) id hint)
-hint-seen r h t n id s y w hint state turn noted =
+    → cell_of y ≡ cell_of s → y.link ≡ s.link → y.turn ≡ s.turn → hint_kept y ≡ hint → IsSeenAs (region_with r r.free t) (with_hint (pool_of r) id hint)
+hint-seen r h t n id s y w hint cell link turn noted =
     let first = r.tables.first in
     let slots = slots_of r.tables.chunks.items in
-    let links = field-kept (λ x. link_of x.state) first slots n id s y w.entry (ap link_of state) in
+    let links = field-kept (λ x. x.link) first slots n id s y w.entry link in
     slot-seen r h t n id s y w r.free _ _ _ _
-    (field-kept (λ x. cell_of x.state) first slots n id s y w.entry (ap cell_of state))
+    (field-kept (λ x. cell_of x) first slots n id s y w.entry cell)
     (ap (λ l. thread first l r.free.count r.free.head) links)
     (field-kept (λ x. x.turn) first slots n id s y w.entry turn)
-    (field-written (λ x. x.hint) first slots n id s y w.entry ∙ ap (λ o. set (map (λ x. x.hint) slots) (id - first) o) noted)
+    (field-written (λ x. hint_kept x) first slots n id s y w.entry ∙ ap (λ o. set (map (λ x. hint_kept x) slots) (id - first) o) noted)
     (with_hint-pool (pool_of r) h.pool id hint)
     (λ k more. ap (λ l. told_after first l k r.free.head) links ∙ h.tail k more)
 
 place-seen : (r : Inside) → IsRegion r → (t : Tables) (n place : ℕ) (p y : Place) → PlaceWritten r t n place p y → (leafs : List (Option ℕ)) (fingers : List (Option Hint))
-    → map (λ x. x.leaf) (set (places_of r.tables.chunks.items) n y) ≡ leafs → map (λ x. x.finger) (set (places_of r.tables.chunks.items) n y) ≡ fingers
+    → map (λ x. leaf_kept x) (set (places_of r.tables.chunks.items) n y) ≡ leafs → map (λ x. finger_kept x) (set (places_of r.tables.chunks.items) n y) ≡ fingers
     → IsPool (record (pool_of r) { leafs = leafs; fingers = fingers })
     → IsSeenAs (region_with r r.free t) (record (pool_of r) { leafs = leafs; fingers = fingers })
 place-seen r h t n place p y w leafs fingers as_leafs as_fingers pool =
     let seen : pool_of (region_with r r.free t) ≡ record (pool_of r) { leafs = leafs; fingers = fingers } = pool-same _ _ (record {
       first = w.kept.first;
       cells = ap cells_in w.slots;
-      leafs = ap (λ xs. map (λ x. x.leaf) xs) w.places ∙ as_leafs;
+      leafs = ap (λ xs. map (λ x. leaf_kept x) xs) w.places ∙ as_leafs;
       free = ap (λ k. free_in k (slots_of t.chunks.items) r.free) w.kept.first ∙ ap (λ xs. free_in r.tables.first xs r.free) w.slots;
       chunks = w.kept.chunks;
       room = refl;
       turns = ap (λ xs. map (λ x. x.turn) xs) w.slots;
-      hints = ap (λ xs. map (λ x. x.hint) xs) w.slots;
-      fingers = ap (λ xs. map (λ x. x.finger) xs) w.places ∙ as_fingers;
+      hints = ap (λ xs. map (λ x. hint_kept x) xs) w.slots;
+      fingers = ap (λ xs. map (λ x. finger_kept x) xs) w.places ∙ as_fingers;
     }) in
     (seen, record { pool = subst (λ q. IsPool q) (sym seen) pool; tail = rw (w.kept.first, w.slots) h.tail; capacity = omega (arith, h.capacity, w.kept.capacity) })
 
 -- another number stands above a place
 pub leaf-seen : (r : Inside) → IsRegion r → (t : Tables) (n place : ℕ) (p y : Place) → PlaceWritten r t n place p y → (up : Option ℕ)
-    → y.leaf ≡ up → y.finger ≡ p.finger → IsSeenAs (region_with r r.free t) (with_leaf (pool_of r) place up)
+    → leaf_kept y ≡ up → finger_kept y ≡ finger_kept p → IsSeenAs (region_with r r.free t) (with_leaf (pool_of r) place up)
 leaf-seen r h t n place p y w up leaf finger =
     let first = r.tables.first in
     let places = places_of r.tables.chunks.items in
     place-seen r h t n place p y w _ _
-    (field-written (λ x. x.leaf) first places n place p y w.entry ∙ ap (λ o. set (map (λ x. x.leaf) places) (place - first) o) leaf)
-    (field-kept (λ x. x.finger) first places n place p y w.entry finger)
+    (field-written (λ x. leaf_kept x) first places n place p y w.entry ∙ ap (λ o. set (map (λ x. leaf_kept x) places) (place - first) o) leaf)
+    (field-kept (λ x. finger_kept x) first places n place p y w.entry finger)
     (with_leaf-pool (pool_of r) h.pool place up)
 
 -- something else is noted at a place
 pub finger-seen : (r : Inside) → IsRegion r → (t : Tables) (n place : ℕ) (p y : Place) → PlaceWritten r t n place p y → (noted : Option Hint)
-    → y.leaf ≡ p.leaf → y.finger ≡ noted → IsSeenAs (region_with r r.free t) (with_finger (pool_of r) place noted)
+    → leaf_kept y ≡ leaf_kept p → finger_kept y ≡ noted → IsSeenAs (region_with r r.free t) (with_finger (pool_of r) place noted)
 finger-seen r h t n place p y w noted leaf finger =
     let first = r.tables.first in
     let places = places_of r.tables.chunks.items in
     place-seen r h t n place p y w _ _
-    (field-kept (λ x. x.leaf) first places n place p y w.entry leaf)
-    (field-written (λ x. x.finger) first places n place p y w.entry ∙ ap (λ o. set (map (λ x. x.finger) places) (place - first) o) finger)
+    (field-kept (λ x. leaf_kept x) first places n place p y w.entry leaf)
+    (field-written (λ x. finger_kept x) first places n place p y w.entry ∙ ap (λ o. set (map (λ x. finger_kept x) places) (place - first) o) finger)
     (with_finger-pool (pool_of r) h.pool place noted)
 
 -- a hint of a number without a cell, or of another turn, means nothing

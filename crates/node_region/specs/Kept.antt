@@ -2,7 +2,7 @@
 use Rattle.std.specs.Prelude.{◌≡◌, ℕ, ◌+◌, ◌<◌, ◌≤◌, ◌++◌, length, map, None, vec_capacity}
 use Rattle.hg_base.specs.Edges.{IsIn}
 use Rattle.node_region.specs.Pool.{AreDifferent, entry}
-use Rattle.node_region.specs.Tables.{slots_of, places_of, cells_in, free_in, IsTail}
+use Rattle.node_region.specs.Tables.{slots_of, places_of, cells_in, hint_kept, free_in, IsTail}
 use Rattle.node_region.specs.declared.chunk.FreeList.{FreeList}
 use Rattle.node_region.specs.declared.tables.Tables.{Tables}
 
@@ -33,7 +33,7 @@ pub record IsLinked (old : Tables) (front behind : FreeList) (new : Tables) (bot
   pub places : places_of new.chunks.items ≡ places_of old.chunks.items
   pub cells : cells_in (slots_of new.chunks.items) ≡ cells_in (slots_of old.chunks.items)
   pub turns : map (λ s. s.turn) (slots_of new.chunks.items) ≡ map (λ s. s.turn) (slots_of old.chunks.items)
-  pub hints : map (λ s. s.hint) (slots_of new.chunks.items) ≡ map (λ s. s.hint) (slots_of old.chunks.items)
+  pub hints : map (λ s. hint_kept s) (slots_of new.chunks.items) ≡ map (λ s. hint_kept s) (slots_of old.chunks.items)
   pub free : free_in new.first (slots_of new.chunks.items) both ≡ free_in old.first (slots_of old.chunks.items) front ++ free_in old.first (slots_of old.chunks.items) behind
   pub count : both.count ≡ front.count + behind.count
   pub tail : IsTail new.first (slots_of new.chunks.items) both

@@ -55,8 +55,8 @@ abbrev pub AreDifferent : List ℕ → Type 0
 AreDifferent [] = Unit {0}
 AreDifferent (i ∷ is) = (IsIn i is → ⊥) × AreDifferent is
 
--- What every region keeps to: one entry for each number in each list, all within the room, and each number either
--- has a cell or is free, once.
+-- What every region keeps to: one entry for each number in each list, all within the room, in tables of which none is
+-- empty, and each number either has a cell or is free, once.
 pub record IsPool (pool : CellPool) : Type 0 where
   pub leafs : length pool.leafs ≡ count pool
   pub turns : length pool.turns ≡ count pool
@@ -67,6 +67,7 @@ pub record IsPool (pool : CellPool) : Type 0 where
   pub range : pool.first + pool.room.places ≤ 1048576
   pub some_chunk : 1 ≤ pool.chunks
   pub few_chunks : pool.chunks ≤ pool.room.chunks
+  pub no_empty_chunk : pool.chunks ≤ count pool
   pub chunk_room : pool.room.chunks ≤ 65536
   pub free_is_covered : (id : ℕ) → IsIn id pool.free → IsCovered pool id
   pub free_has_no_cell : (id : ℕ) → IsIn id pool.free → cell_at pool id ≡ None

@@ -1,10 +1,9 @@
 -- The tables of a region: one after another they have an entry for each number and for each place.
-use Rattle.std.specs.Prelude.{◌≡◌, ℕ, zero, suc, ◌+◌, ◌-◌, ◌<◌, ◌≤◌, List, [], ◌∷◌, length, map, take, get_or, Option, Some, None}
+use Rattle.std.specs.Prelude.{◌≡◌, ℕ, zero, suc, ◌+◌, ◌-◌, ◌<◌, ◌≤◌, List, [], ◌∷◌, length, map, take, get_or, Option, Some, None, false, if◌then◌else◌}
 use Rattle.std.specs.List.{flat_map, range_with_len}
 use Rattle.std.specs.Coded.{×_prop, Unit-prop, Coded-set, coded_ℕ, le_prop}
 use Rattle.node_region.specs.declared.cell.Cell.{Cell}
-use Rattle.node_region.specs.declared.chunk.State.{State}
-use Rattle.node_region.specs.declared.chunk.State.TheVariants.{Used, Free}
+use Rattle.node_region.specs.declared.cell.Hint.{Hint}
 use Rattle.node_region.specs.declared.chunk.Slot.{Slot}
 use Rattle.node_region.specs.declared.chunk.Place.{Place}
 use Rattle.node_region.specs.declared.chunk.Chunk.{Chunk}
@@ -43,34 +42,44 @@ pub record IsAt (chunks : List Chunk) (at : At) : Type 0 where
 abbrev pub number_at : List Chunk → At → ℕ
 number_at chunks at = start_of chunks at.chunk + at.index
 
+-- what stands where nothing is noted
+abbrev pub no_hint : Hint
+no_hint = record { cell = 0; turn = 0; rank = 0 }
+
 -- the entry of a number that was never taken
 abbrev pub fresh_slot : ℕ → Slot
-fresh_slot id = record { state = Free (id + 1); turn = 0; hint = None }
+fresh_slot id = record { rank = 0; link = id + 1; turn = 0; used = false; linked = false; noted = false; note = no_hint }
 
 abbrev pub fresh_slots : ℕ → ℕ → List Slot
 fresh_slots first count = map fresh_slot (range_with_len first count)
 
 -- the entry of a place with nothing above it
 abbrev pub fresh_place : Place
-fresh_place = record { leaf = None; finger = None }
+fresh_place = record { link = 0; linked = false; noted = false; note = no_hint }
 
--- the cell, where there is one
-abbrev pub cell_of : State → Option Cell
-cell_of (Used cell) = Some cell
-cell_of (Free next) = None
+-- the cell that an entry tells, where there is one
+abbrev pub cell_of : Slot → Option Cell
+cell_of s = if s.used then Some (record { rank = s.rank; up = if s.linked then Some s.link else None }) else None
 
--- what a free number tells, or 0 for one that has a cell
-abbrev pub link_of : State → ℕ
-link_of (Used cell) = 0
-link_of (Free next) = next
+-- what an entry tells of what is noted at a number
+abbrev pub hint_kept : Slot → Option Hint
+hint_kept s = if s.noted then Some s.note else None
+
+-- what an entry tells of the first cell above a place
+abbrev pub leaf_kept : Place → Option ℕ
+leaf_kept p = if p.linked then Some p.link else None
+
+-- what an entry tells of what is noted at a place
+abbrev pub finger_kept : Place → Option Hint
+finger_kept p = if p.noted then Some p.note else None
 
 -- the cells of the numbers that have one
 abbrev pub cells_in : List Slot → List (Option Cell)
-cells_in slots = map (λ s. cell_of s.state) slots
+cells_in slots = map (λ s. cell_of s) slots
 
 -- what each number tells
 abbrev pub links_in : List Slot → List ℕ
-links_in slots = map (λ s. link_of s.state) slots
+links_in slots = map (λ s. s.link) slots
 
 -- the number that a number tells
 abbrev pub next_of : ℕ → List ℕ → ℕ → ℕ

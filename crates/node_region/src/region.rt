@@ -2,7 +2,7 @@ ghost use Rattle.std.specs.Prelude.{◌≡◌, ◌≢◌, ℕ, ◌+◌, ◌<◌,
 ghost use Rattle.node_region.specs.Pool.{IsCovered, IsUsed, IsPool, IsNextTo, IsKept, count, cell_at, leaf_of, turn_of, hint_of, finger_of, hinted_cell, fresh_pool, with_cell, with_taken, with_given_back, with_leaf, with_hint, with_finger, appended};
 
 use crate::cell::{Cell, Entry, Hint};
-use crate::chunk::{FreeList, Place, Slot, State};
+use crate::chunk::{FreeList, Slot};
 use crate::tables::Tables;
 use hg_base::{OutOfMemory, Room};
 use std::alloc::{AllocError, Global};
@@ -73,6 +73,7 @@ impl Region {
 
     /// Gives the first free number this cell. It has no hint then. None exactly where no number is free, and then
     /// nothing changes.
+    #[inline(always)]
     pub fn take(&mut self, cell: Cell) -> Option<u32>
         ensures none { IfNone result (self.old.free ≡ []) }
         ensures unchanged { IfNone result (self.new ≡ self.old) }
@@ -86,99 +87,108 @@ impl Region {
         let id = self.free.head;
         let at = self.tables.locate(id);
         let slot = self.tables.slot(at);
-        let State::Free(next) = slot.state else {
-            unreachable!()
+        let fresh = Slot {
+            turn: slot.turn.saturating_add(1),
+            noted: false,
+            ..slot
         };
-        self.tables.set_slot(
-            at,
-            Slot {
-                state: State::Used(cell),
-                turn: slot.turn.saturating_add(1),
-                hint: None,
-            },
-        );
-        self.free.head = next;
+        self.tables.set_slot(at, fresh.with_cell(cell));
+        self.free.head = slot.link;
         self.free.count -= 1;
         Some(id)
     }
 
     /// Takes the cell of a number away. The number is the first free one then.
+    #[inline(always)]
     pub fn give_back(&mut self, id: u32)
         requires { IsUsed self.old id }
         ensures { self.new ≡ with_given_back self.old id }
     {
         let at = self.tables.locate(id);
         let slot = self.tables.slot(at);
-        let state = State::Free(self.free.head);
-        self.tables.set_slot(at, Slot { state, ..slot });
+        self.tables.set_slot(
+            at,
+            Slot {
+                used: false,
+                link: self.free.head,
+                ..slot
+            },
+        );
         self.free = put_in_front(self.free, id);
     }
 
     /// The cell of a number.
+    #[inline(always)]
     pub fn get(&self, id: u32) -> Cell
         requires { IsUsed self.now id }
         ensures { cell_at self.now id ≡ Some result }
     {
-        match self.tables.slot(self.tables.locate(id)).state {
-            State::Used(cell) => cell,
-            State::Free(_) => unreachable!(),
+        match self.tables.slot(self.tables.locate(id)).cell() {
+            Some(cell) => cell,
+            None => unreachable!(),
         }
     }
 
     /// The cell of a number, if it has one.
+    #[inline(always)]
     pub fn cell(&self, id: u32) -> Option<Cell>
         requires { IsCovered self.now id }
         ensures { result ≡ cell_at self.now id }
     {
-        match self.tables.slot(self.tables.locate(id)).state {
-            State::Used(cell) => Some(cell),
-            State::Free(_) => None,
-        }
+        self.tables.slot(self.tables.locate(id)).cell()
     }
 
     /// All that is kept of a number that has a cell, read at once.
+    #[inline(always)]
     pub fn entry(&self, id: u32) -> Entry
         requires { IsUsed self.now id }
         ensures { IsKept self.now id result }
     {
-        let Slot { state, turn, hint } = self.tables.slot(self.tables.locate(id));
-        match state {
-            State::Used(cell) => Entry { cell, turn, hint },
-            State::Free(_) => unreachable!(),
+        let slot = self.tables.slot(self.tables.locate(id));
+        match slot.cell() {
+            Some(cell) => Entry {
+                cell,
+                turn: slot.turn,
+                hint: slot.hint(),
+            },
+            None => unreachable!(),
         }
     }
 
     /// Gives a number that has a cell this one in its place.
+    #[inline(always)]
     pub fn set(&mut self, id: u32, cell: Cell)
         requires { IsUsed self.old id }
         ensures { self.new ≡ with_cell self.old id (Some cell) }
     {
         let at = self.tables.locate(id);
         let slot = self.tables.slot(at);
-        let state = State::Used(cell);
-        self.tables.set_slot(at, Slot { state, ..slot });
+        self.tables.set_slot(at, slot.with_cell(cell));
     }
 
     /// The number of the first cell above a place, if there is one.
+    #[inline(always)]
     pub fn leaf(&self, place: u32) -> Option<u32>
         requires { IsCovered self.now place }
         ensures { result ≡ leaf_of self.now place }
     {
-        self.tables.place(self.tables.locate(place)).leaf
+        self.tables.place(self.tables.locate(place)).leaf()
     }
 
     /// Puts the number of a cell above a place, or none.
+    #[inline(always)]
     pub fn set_leaf(&mut self, place: u32, up: Option<u32>)
         requires { IsCovered self.old place }
         ensures { self.new ≡ with_leaf self.old place up }
     {
         let at = self.tables.locate(place);
-        let Place { finger, .. } = self.tables.place(at);
-        self.tables.set_place(at, Place { leaf: up, finger });
+        let entry = self.tables.place(at);
+        self.tables.set_place(at, entry.with_leaf(up));
     }
 
     /// How often a number was taken. The count stands still at the greatest `u32`: from then on all cells of the number
     /// have one turn, and a hint of that turn no longer tells which of them it means.
+    #[inline(always)]
     pub fn turn(&self, id: u32) -> u32
         requires { IsCovered self.now id }
         ensures { result ≡ turn_of self.now id }
@@ -187,42 +197,47 @@ impl Region {
     }
 
     /// What is noted at a number of a cell further up.
+    #[inline(always)]
     pub fn hint(&self, id: u32) -> Option<Hint>
         requires { IsCovered self.now id }
         ensures { result ≡ hint_of self.now id }
     {
-        self.tables.slot(self.tables.locate(id)).hint
+        self.tables.slot(self.tables.locate(id)).hint()
     }
 
     /// Notes at a number where a cell further up is, or nothing.
+    #[inline(always)]
     pub fn set_hint(&mut self, id: u32, hint: Option<Hint>)
         requires { IsCovered self.old id }
         ensures { self.new ≡ with_hint self.old id hint }
     {
         let at = self.tables.locate(id);
         let slot = self.tables.slot(at);
-        self.tables.set_slot(at, Slot { hint, ..slot });
+        self.tables.set_slot(at, slot.with_hint(hint));
     }
 
     /// What is noted at a place of a cell further up.
+    #[inline(always)]
     pub fn finger(&self, place: u32) -> Option<Hint>
         requires { IsCovered self.now place }
         ensures { result ≡ finger_of self.now place }
     {
-        self.tables.place(self.tables.locate(place)).finger
+        self.tables.place(self.tables.locate(place)).finger()
     }
 
     /// Notes at a place where a cell further up is, or nothing.
+    #[inline(always)]
     pub fn set_finger(&mut self, place: u32, finger: Option<Hint>)
         requires { IsCovered self.old place }
         ensures { self.new ≡ with_finger self.old place finger }
     {
         let at = self.tables.locate(place);
-        let Place { leaf, .. } = self.tables.place(at);
-        self.tables.set_place(at, Place { leaf, finger });
+        let entry = self.tables.place(at);
+        self.tables.set_place(at, entry.with_finger(finger));
     }
 
     /// The cell that a hint means. None where its number isn't one of the pool's, has no cell, or was taken again.
+    #[inline(always)]
     pub fn find(&self, hint: Hint) -> Option<Cell>
         ensures { result ≡ hinted_cell self.now hint }
     {
@@ -230,13 +245,14 @@ impl Region {
             return None;
         }
         let slot = self.tables.slot(self.tables.locate(hint.cell));
-        match slot.state {
-            State::Used(cell) if slot.turn == hint.turn => Some(cell),
+        match slot.cell() {
+            Some(cell) if slot.turn == hint.turn => Some(cell),
             _ => None,
         }
     }
 
     /// All that is kept of the number that a hint names. None where the cell that it means isn't there.
+    #[inline(always)]
     pub fn find_entry(&self, hint: Hint) -> Option<Entry>
         ensures found { IfSome result (λ entry. hinted_cell self.now hint ≡ Some entry.cell) }
         ensures kept { IfSome result (IsKept self.now hint.cell) }
@@ -246,11 +262,11 @@ impl Region {
             return None;
         }
         let slot = self.tables.slot(self.tables.locate(hint.cell));
-        match slot.state {
-            State::Used(cell) if slot.turn == hint.turn => Some(Entry {
+        match slot.cell() {
+            Some(cell) if slot.turn == hint.turn => Some(Entry {
                 cell,
                 turn: slot.turn,
-                hint: slot.hint,
+                hint: slot.hint(),
             }),
             _ => None,
         }

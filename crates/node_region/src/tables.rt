@@ -1,7 +1,7 @@
 ghost use Rattle.std.specs.Prelude.{◌≡◌, ℕ, ◌+◌, ◌-◌, ◌<◌, ◌≤◌, ◌++◌, length, get_or, set, replicate, map, vec_capacity, IfOk, IsTrue, ◌↔◌};
 ghost use Rattle.node_region.specs.Tables.{slots_of, places_of, start_of, number_at, IsAt, AreInRow, AreInRow-prop, fresh_slots, fresh_place};
 
-use crate::chunk::{At, Chunk, FreeList, Place, Slot, State};
+use crate::chunk::{At, Chunk, FreeList, NO_HINT, Place, Slot};
 use std::alloc::{AllocError, Global};
 
 /// Tables one after another: each begins with the number after the last one of the table before it.
@@ -39,8 +39,10 @@ impl Tables {
     {
         let slots = fresh_slots(alloc, first, count)?;
         let place = Place {
-            leaf: None,
-            finger: None,
+            link: 0,
+            linked: false,
+            noted: false,
+            note: NO_HINT,
         };
         let places = vec![in alloc; place; count as usize]?;
         let mut list = Vec::with_capacity(alloc, chunks as usize)?;
@@ -58,6 +60,7 @@ impl Tables {
     }
 
     // Whether the number is one of these.
+    #[inline(always)]
     pub(crate) fn covers(&self, id: u32) -> bool
         ensures { IsTrue result ↔ ((self.now.first ≤ id) × (id < self.now.first + self.now.count)) }
     {
@@ -66,6 +69,7 @@ impl Tables {
 
     // Where the entry of a number is. Most tables are as long as the first, so one multiplication mostly tells which it
     // is; where it doesn't, they are searched.
+    #[inline(always)]
     pub(crate) fn locate(&self, id: u32) -> At
         requires from { self.now.first ≤ id }
         requires below { id < self.now.first + self.now.count }
@@ -121,6 +125,7 @@ impl Tables {
     }
 
     // The entry of a number.
+    #[inline(always)]
     pub(crate) fn slot(&self, at: At) -> Slot
         requires { IsAt self.now.chunks.items at }
         ensures { result ≡ get_or (slots_of self.now.chunks.items) (number_at self.now.chunks.items at) result }
@@ -129,6 +134,7 @@ impl Tables {
     }
 
     // The entry of a place.
+    #[inline(always)]
     pub(crate) fn place(&self, at: At) -> Place
         requires { IsAt self.now.chunks.items at }
         ensures { result ≡ get_or (places_of self.now.chunks.items) (number_at self.now.chunks.items at) result }
@@ -137,6 +143,7 @@ impl Tables {
     }
 
     // Writes the entry of a number.
+    #[inline(always)]
     pub(crate) fn set_slot(&mut self, at: At, slot: Slot)
         requires { IsAt self.old.chunks.items at }
         ensures slots { slots_of self.new.chunks.items ≡ set (slots_of self.old.chunks.items) (number_at self.old.chunks.items at) slot }
@@ -148,6 +155,7 @@ impl Tables {
     }
 
     // Writes the entry of a place.
+    #[inline(always)]
     pub(crate) fn set_place(&mut self, at: At, place: Place)
         requires { IsAt self.old.chunks.items at }
         ensures places { places_of self.new.chunks.items ≡ set (places_of self.old.chunks.items) (number_at self.old.chunks.items at) place }
@@ -190,8 +198,8 @@ impl Tables {
         }
         let at = self.locate(front.tail);
         let slot = self.slot(at);
-        let state = State::Free(behind.head);
-        self.set_slot(at, Slot { state, ..slot });
+        let link = behind.head;
+        self.set_slot(at, Slot { link, ..slot });
         FreeList {
             count: front.count + behind.count,
             head: front.head,
@@ -221,9 +229,13 @@ fn fresh_slots(alloc: Global, first: u32, count: u32) -> Result<Vec<Slot>, Alloc
     let mut slots = Vec::with_capacity(alloc, count as usize)?;
     for id in first..first + count {
         slots.push(Slot {
-            state: State::Free(id + 1),
+            rank: 0,
+            link: id + 1,
             turn: 0,
-            hint: None,
+            used: false,
+            linked: false,
+            noted: false,
+            note: NO_HINT,
         })?;
     }
     Ok(slots)

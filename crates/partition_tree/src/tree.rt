@@ -1,5 +1,6 @@
-ghost use Rattle.std.specs.Prelude.{◌≡◌, ◌≢◌, ℕ, ◌-◌, ◌<◌, ◌≤◌, slice_get, Some, IfOk, MatchOption, IfSome, IsTrue};
+ghost use Rattle.std.specs.Prelude.{◌≡◌, ◌≢◌, ◌↔◌, ℕ, ◌-◌, ◌<◌, ◌≤◌, slice_get, Some, IfOk, MatchOption, IfSome, IsTrue};
 ghost use Rattle.hg_base.specs.Tree.{parent, altitude};
+ghost use Rattle.hg_base.specs.Levels.{AltitudesRise};
 ghost use Rattle.hg_base.specs.Saliency.{IsLowestAbove};
 ghost use Rattle.partition_tree.specs.Forest.{nodes, roots, lists_of, IsForest};
 ghost use Rattle.partition_tree.specs.Paths.{IsCommon, ShareRoot};
@@ -115,6 +116,33 @@ impl Tree {
         ensures leaf { i < self.now.leaves → result ≡ 0 }
     {
         self.altitudes[i as usize]
+    }
+
+    /// The parent of each node.
+    pub fn parents(&self) -> &[u32]
+        ensures { result.now ≡ self.now.parents }
+    {
+        &self.parents
+    }
+
+    /// The altitude of each node.
+    pub fn altitudes(&self) -> &[u64]
+        ensures { result.now ≡ self.now.altitudes }
+    {
+        &self.altitudes
+    }
+
+    /// Whether no altitude falls from child to parent, as it must be in a tree that is cut at a level or of which the
+    /// zones are made.
+    pub fn altitudes_rise(&self) -> bool
+        ensures { IsTrue result ↔ AltitudesRise self.now }
+    {
+        for i in 0..self.nodes() {
+            if self.altitude(self.parent(i)) < self.altitude(i) {
+                return false;
+            }
+        }
+        true
     }
 
     /// The number of the edge that made an inner node.

@@ -1,5 +1,3 @@
-ghost use Rattle.std.specs.Prelude.{◌≡◌, true};
-ghost use Rattle.hg_base.specs.Levels.{AltitudesRise};
 ghost use Rattle.partition_tree.specs.Ranked.{IsRankedList};
 
 use super::zones;
@@ -38,18 +36,6 @@ const APART: [Ranked; 1] = [Ranked {
     altitude: 4,
 }];
 
-// Whether altitudes don't fall from child to parent.
-fn rises(tree: &Tree) -> bool
-    ensures { result ≡ true → AltitudesRise tree.now }
-{
-    for i in 0..tree.nodes() {
-        if tree.altitude(tree.parent(i)) < tree.altitude(i) {
-            return false;
-        }
-    }
-    true
-}
-
 fn assert_zones(
     rt: &impl Abort,
     alloc: Global,
@@ -60,7 +46,7 @@ fn assert_zones(
     requires { IsRankedList n list.now }
 {
     let tree = Tree::of_list(alloc, n, list)?;
-    assert!(rt; rises(&tree));
+    assert!(rt; tree.altitudes_rise());
     let zones = zones(alloc, &tree)?;
     let text = write_tree(alloc, &zones)?;
     assert_eq!(rt; text.as_slice(), report.as_bytes());

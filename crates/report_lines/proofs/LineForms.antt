@@ -1,9 +1,11 @@
 -- Lines that are made from the end to the front, and lists of lines.
-use Rattle.std.proofs.Common.{◌≡◌, ℕ, zero, suc, ◌+◌, ◌-◌, ◌<◌, ◌≤◌, List, [], ◌∷◌, ◌++◌, length, get_or, drop, set, refl, sym, ap, ◌∙◌, arith, add-one, append_assoc, append-nil, drop-cons}
-use Rattle.std.specs.Prelude.{decimal}
+use Rattle.std.proofs.Common.{◌≡◌, ℕ, zero, suc, ◌+◌, ◌-◌, ◌<◌, ◌≤◌, List, [], ◌∷◌, ◌++◌, length, get_or, drop, set, refl, sym, ap, ◌∙◌, arith, add-one, append_assoc, append-nil, drop-cons, length-append}
+use Rattle.std.specs.Prelude.{decimal, Some}
 use Rattle.std.specs.List.{flat_map}
 use Rattle.std.proofs.lemmas.List.{drop-set}
 use Rattle.std.proofs.Math.ListN.{drop_of_length-le}
+use Rattle.std.proofs.Math.Seq.{take-append_seam}
+use Rattle.hg_base.specs.Outside.{AppendsPrefix}
 use Rattle.hg_base.specs.Text.{line, headed_line}
 use Rattle.report_lines.specs.Lines.{lines_from, spaced}
 
@@ -81,6 +83,10 @@ headed_text old worded new word ns bytes start some first made second =
     ∙ append_assoc old word (drop start bytes)
     ∙ ap (λ (rest : List ℕ). old ++ (word ++ rest)) made
     ∙ ap (λ (rest : List ℕ). old ++ rest) (headed_from word ns some)
+
+-- the word alone is appended
+pub word_appended : (old new word ns : List ℕ) → new ≡ old ++ word → AppendsPrefix (Some old) (Some new) (headed_line word ns)
+word_appended old new word ns worded = (length word, omega (arith, length-append word (32 ∷ line ns)), worded ∙ ap (λ (text : List ℕ). old ++ text) (sym (take-append_seam word (32 ∷ line ns))))
 
 -- the lines of the elements of a list, from an index on
 lines_from_index : (f : ℕ → List ℕ) (xs : List ℕ) (a n : ℕ) → a + n ≡ length xs → lines_from (λ i. f (get_or xs i 0)) a n ≡ flat_map f (drop a xs)

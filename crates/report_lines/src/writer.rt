@@ -1,4 +1,5 @@
-ghost use Rattle.std.specs.Prelude.{◌≡◌, ◌<◌, ◌≤◌, [], ◌++◌, length, drop, OnOk};
+ghost use Rattle.std.specs.Prelude.{◌≡◌, ◌<◌, ◌≤◌, [], ◌++◌, length, drop, Some, OnOk, OnErr};
+ghost use Rattle.hg_base.specs.Outside.{AppendsPrefix};
 ghost use Rattle.hg_base.specs.Text.{line, headed_line};
 ghost use Rattle.report_lines.specs.Lines.{spaced};
 
@@ -48,7 +49,8 @@ impl LineWriter {
     pub fn push_line(&mut self, numbers: &[u64]) -> Result<(), AllocError>
         requires some { 0 < length numbers.now }
         requires few { length numbers.now ≤ 6 }
-        ensures { OnOk result (self.new ≡ self.old ++ line numbers.now) }
+        ensures all { OnOk result (self.new ≡ self.old ++ line numbers.now) }
+        ensures stays { OnErr result (self.new ≡ self.old) }
     {
         let start = fill(&mut self.line, numbers);
         append(&mut self.text, &self.line, start + 1)
@@ -59,7 +61,8 @@ impl LineWriter {
     pub fn push_headed_line(&mut self, word: &str, numbers: &[u64]) -> Result<(), AllocError>
         requires some { 0 < length numbers.now }
         requires few { length numbers.now ≤ 6 }
-        ensures { OnOk result (self.new ≡ self.old ++ headed_line word.now numbers.now) }
+        ensures all { OnOk result (self.new ≡ self.old ++ headed_line word.now numbers.now) }
+        ensures prefix { OnErr result (AppendsPrefix (Some self.old) (Some self.new) (headed_line word.now numbers.now)) }
     {
         let start = fill(&mut self.line, numbers);
         self.text.extend_from_slice(word.as_bytes())?;
@@ -75,10 +78,11 @@ impl LineWriter {
     }
 }
 
-// Appends the bytes from a place on.
+// Appends the bytes from a place on. Where there is no memory left the text stays.
 fn append(text: &mut Vec<u8>, bytes: &[u8], start: usize) -> Result<(), AllocError>
     requires { start ≤ length bytes.now }
-    ensures { OnOk result (text.new.items ≡ text.old.items ++ drop start bytes.now) }
+    ensures all { OnOk result (text.new.items ≡ text.old.items ++ drop start bytes.now) }
+    ensures stays { OnErr result (text.new.items ≡ text.old.items) }
 {
     text.extend_from_slice(&bytes[start..])
 }

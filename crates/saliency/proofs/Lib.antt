@@ -1,3 +1,4 @@
 pub mod TopLemmas
 pub mod KeyLemmas
 pub mod ValueLemmas
+pub mod RootLemmas

@@ -15,7 +15,6 @@ use Rattle.hg_base.specs.Saliencies.{saliency, saliencies}
 use Rattle.hg_base.proofs.Meeting.{lowest-weight}
 use Rattle.hg_base.proofs.Ranked.{AreApart-ranked, AreByWeight-ranked}
 use Rattle.hg_base.proofs.Saliencies.{saliency-is, saliency-only}
-use Rattle.partition_tree.specs.Paths.{ShareRoot}
 use Rattle.saliency.specs.Values.{IsLowestAltitude, AreLowestAltitudes, AreSaliencies}
 
 -- the ends of an edge that was read
@@ -84,14 +83,3 @@ each-saliency g values same = record {
       (sym (ap (λ (xs : List ℕ). get_or xs e 0) same ∙ get_or-map-range_with_len (saliency g) 0 (length g.edges) e e 0 h (omega arith)))
       (saliency-is g e h);
 }
-
--- one more edge whose ends have one root
-pub roots_more : (g : WeightedGraph) (t : ParentTree) (e : ℕ) (x : Edge) → ((j : ℕ) → j < e → ShareRoot t (first_end g j) (second_end g j)) → slice_get g.edges e ≡ Some x → ShareRoot t x.u x.v →
-    (j : ℕ) → j < e + 1 → ShareRoot t (first_end g j) (second_end g j)
-roots_more g t e x before at share j h = elim (cases_eq j e) [
-  | inl level ↦
-      let here : ShareRoot t (first_end g e) (second_end g e) =
-      subst (λ (m : ℕ). ShareRoot t m (second_end g e)) (sym (first-is g e x at)) (subst (λ (m : ℕ). ShareRoot t x.u m) (sym (second-is g e x at)) share) in
-      subst (λ (i : ℕ). ShareRoot t (first_end g i) (second_end g i)) (sym level) here
-  | inr other ↦ before j (grind (arith, h, other))
-]

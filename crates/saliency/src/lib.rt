@@ -3,11 +3,13 @@
 
 mod regions;
 mod report;
+mod roots;
 mod values;
 
 pub use regions::cut;
 pub use report::{saliency_pieces, write_saliency};
-pub use values::saliency;
+pub use roots::ends_share_roots;
+pub use values::{saliency, saliency_in_threads};
 
 #[cfg(test)]
 mod tests;

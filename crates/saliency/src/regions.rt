@@ -48,8 +48,8 @@ fn tops(alloc: Global, tree: &Tree, level: u64) -> Result<Vec<u32>, AllocError>
     Ok(tops)
 }
 
-// The numbers below n.
-fn own_numbers(alloc: Global, n: u32) -> Result<Vec<u32>, AllocError>
+/// The numbers below n.
+pub(crate) fn own_numbers(alloc: Global, n: u32) -> Result<Vec<u32>, AllocError>
     ensures { IfOk result (λ numbers. numbers.items ≡ range_with_len 0 n) }
 {
     let mut numbers = Vec::with_capacity(alloc, n as usize)?;

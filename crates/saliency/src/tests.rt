@@ -1,14 +1,14 @@
-ghost use Rattle.std.specs.Prelude.{◌≡◌, true};
-ghost use Rattle.hg_base.specs.Levels.{AltitudesRise};
 ghost use Rattle.partition_tree.specs.Ranked.{IsRankedList};
-ghost use Rattle.saliency.specs.Values.{EndsShareRoots};
 
-use super::{cut, saliency, saliency_pieces, write_saliency};
+use super::{
+    cut, ends_share_roots, saliency, saliency_in_threads, saliency_pieces, write_saliency,
+};
 use hg_base::{Edge, Graph, OutOfMemory};
 use partition_tree::{Ranked, Tree};
 use std::alloc::{AllocError, Global};
 use std::process::Abort;
 use std::test::Fail;
+use std::thread::Threads;
 
 // The edges of graphs in order, from their ends, numbers and altitudes.
 const TRIANGLE: [Ranked; 3] = [
@@ -105,34 +105,8 @@ fn graph(
     Ok(Graph::new(n, edges))
 }
 
-// Whether the ends of each edge have one root.
-fn share_roots(rt: &impl Abort, graph: &Graph, tree: &Tree) -> bool
-    ensures { result ≡ true → EndsShareRoots graph.now tree.now }
-{
-    for e in 0..graph.m() {
-        let edge = graph.edge(e);
-        assert!(rt; edge.u < tree.nodes() && edge.v < tree.nodes());
-        let Some(_) = tree.lca(edge.u, edge.v) else {
-            return false;
-        };
-    }
-    true
-}
-
-// Whether altitudes don't fall from child to parent.
-fn rises(tree: &Tree) -> bool
-    ensures { result ≡ true → AltitudesRise tree.now }
-{
-    for i in 0..tree.nodes() {
-        if tree.altitude(tree.parent(i)) < tree.altitude(i) {
-            return false;
-        }
-    }
-    true
-}
-
 fn assert_saliency(
-    rt: &impl Abort,
+    rt: &(impl Threads + Sync + Abort),
     alloc: Global,
     n: u32,
     rows: &[(u32, u32, u32)],
@@ -144,10 +118,13 @@ fn assert_saliency(
     let graph = graph(rt, alloc, n, rows).map_err(|_| OutOfMemory)?;
     let tree = Tree::of_list(alloc, n, list)?;
     assert!(rt; tree.leaves() == graph.n());
-    assert!(rt; share_roots(rt, &graph, &tree));
+    let shared = ends_share_roots(alloc, &graph, &tree)?;
+    assert!(rt; shared);
     let values = saliency(alloc, &graph, &tree)?;
     let text = write_saliency(alloc, &values)?;
     assert_eq!(rt; text.as_slice(), report.as_bytes());
+    let threaded = saliency_in_threads(rt, alloc, &graph, &tree)?;
+    assert_eq!(rt; threaded.as_slice(), values.as_slice());
     Ok(())
 }
 
@@ -162,7 +139,7 @@ fn assert_cut(
     requires { IsRankedList n list.now }
 {
     let tree = Tree::of_list(alloc, n, list)?;
-    assert!(rt; rises(&tree));
+    assert!(rt; tree.altitudes_rise());
     let regions = cut(alloc, &tree, level)?;
     assert_eq!(rt; regions.len() as usize, labels.len());
     for x in 0..regions.len() {

@@ -1,5 +1,5 @@
-use Rattle.forest_witness.proofs.Shapes.{read_rooted}
+use Rattle.watershed_cut.proofs.GraphForest.{forest-rooted}
 use Rattle.forest_witness.proofs.forest.witness.Goals as goal
 
 pub returns-clause-rooted : goal.returns-clause-rooted
-returns-clause-rooted c = read_rooted c.args.graph.now c.read_edges.ensures
+returns-clause-rooted c = forest-rooted c.args.graph.now c.n.ensures.graph

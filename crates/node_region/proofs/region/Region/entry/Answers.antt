@@ -1,14 +1,13 @@
-use Rattle.std.proofs.Common.{◌∙◌, ap}
-use Rattle.node_region.specs.Tables.{cell_of}
+use Rattle.std.proofs.Common.{◌∙◌, sym}
 use Rattle.node_region.proofs.Views.{cell-read, kept-read}
 use Rattle.node_region.proofs.PoolLaws.{used-none}
 use Rattle.node_region.proofs.region.Region.entry.Goals as goal
 
 pub unreachable-requires : goal.unreachable-requires
 unreachable-requires c =
-    let read = cell-read c.self.inside _ c.args.id c.slot-state.result (record { number = c.locate.ensures.number; within = c.locate.ensures.within; read = c.slot-state.ensures }) in
-    used-none c.args.self.now c.args.id c.requires (rw (← c.self.view_is) (read ∙ ap cell_of c.in-Free.is))
+    let read = cell-read c.self.inside _ c.args.id c.slot-slot.result (record { number = c.locate.ensures.number; within = c.locate.ensures.within; read = c.slot-slot.ensures }) in
+    used-none c.args.self.now c.args.id c.requires (rw (← c.self.view_is) (read ∙ sym c.cell.ensures ∙ c.in-None.is))
 
 pub returns : goal.returns
 returns c = rw (← c.self.view_is)
-    (kept-read c.self.inside _ c.args.id c.slot-state.result (record { number = c.locate.ensures.number; within = c.locate.ensures.within; read = c.slot-state.ensures }) c.in-Used.cell c.in-Used.is)
+    (kept-read c.self.inside _ c.args.id c.slot-slot.result (record { number = c.locate.ensures.number; within = c.locate.ensures.within; read = c.slot-slot.ensures }) c.in-Some.cell _ (sym c.cell.ensures ∙ c.in-Some.is) c.hint.ensures)

@@ -1,15 +1,14 @@
-use Rattle.std.proofs.Common.{refl}
 use Rattle.node_region.proofs.Views.{leaf-seen}
 use Rattle.node_region.proofs.region.Region.set_leaf.Goals as goal
 
 pub invariant_of-self : goal.invariant_of-self
 invariant_of-self c =
-    (leaf-seen c.self.inside c.self.invariant c.set_place.new.self _ c.args.place c.place-finger.result _
-    (record { entry = record { number = c.locate-at.ensures.number; within = c.locate-at.ensures.within_places; read = c.place-finger.ensures }; kept = c.set_place.ensures.kept; places = c.set_place.ensures.places; slots = c.set_place.ensures.slots })
-    c.args.up refl refl).1
+    (leaf-seen c.self.inside c.self.invariant c.set_place.new.self _ c.args.place c.place-entry.result _
+    (record { entry = record { number = c.locate-at.ensures.number; within = c.locate-at.ensures.within_places; read = c.place-entry.ensures }; kept = c.set_place.ensures.kept; places = c.set_place.ensures.places; slots = c.set_place.ensures.slots })
+    c.args.up c.with_leaf.ensures.leaf c.with_leaf.ensures.finger).1
 
 pub returns : goal.returns
 returns c = rw (← c.self.view_is)
-    (leaf-seen c.self.inside c.self.invariant c.set_place.new.self _ c.args.place c.place-finger.result _
-    (record { entry = record { number = c.locate-at.ensures.number; within = c.locate-at.ensures.within_places; read = c.place-finger.ensures }; kept = c.set_place.ensures.kept; places = c.set_place.ensures.places; slots = c.set_place.ensures.slots })
-    c.args.up refl refl).0
+    (leaf-seen c.self.inside c.self.invariant c.set_place.new.self _ c.args.place c.place-entry.result _
+    (record { entry = record { number = c.locate-at.ensures.number; within = c.locate-at.ensures.within_places; read = c.place-entry.ensures }; kept = c.set_place.ensures.kept; places = c.set_place.ensures.places; slots = c.set_place.ensures.slots })
+    c.args.up c.with_leaf.ensures.leaf c.with_leaf.ensures.finger).0

@@ -11,4 +11,4 @@ locate-at-requires-clause-below c = (tail-free c.args.self.now c.args.front c.ar
 pub returns : goal.returns
 returns c = linked-written c.args.self.now c.set_slot.new.self c.args.front c.args.behind c.requires c.if-front-eq0.false c.if-behind-eq0.false
     _ c.slot-slot.result _ (record { number = c.locate-at.ensures.number; within = c.locate-at.ensures.within; read = c.slot-slot.ensures })
-    c.set_slot.ensures.kept c.set_slot.ensures.slots c.set_slot.ensures.places refl refl refl
+    c.set_slot.ensures.kept c.set_slot.ensures.slots c.set_slot.ensures.places refl refl refl refl

@@ -1,0 +1,5 @@
+use Rattle.higra_cli.proofs.OrderedLemmas.{shared_roots}
+use Rattle.contour_run.proofs.drawing.altitude_contours.Goals as goal
+
+pub draw_contours-requires-clause-roots : goal.draw_contours-requires-clause-roots
+draw_contours-requires-clause-roots g c κs within = shared_roots c.args.graph.now c.args.tree.now c.requires.tree

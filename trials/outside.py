@@ -1,5 +1,6 @@
 #!/usr/bin/env python3
-"""Runs higra and higra_batch where the outside fails: each read, each write, no room for all of the output, cut inputs.
+"""Runs higra and higra_batch where the outside fails: each read, each write, no room for all of the output, cut inputs; and
+with words that ask for nothing.
 
   outside.py [--program CMD] [--batch CMD]
 
@@ -20,6 +21,7 @@ import plain
 
 TOP = os.path.dirname(os.path.dirname(os.path.abspath(__file__)))
 READ_FAILED = 4, b'', b'higra: read failed\n'
+USAGE = 2, b'', b'higra: usage\n'
 FULL = '/dev/full'
 
 PATH = b'graph 3 2\n0 1 5\n1 2 3\n'
@@ -28,6 +30,8 @@ LISTS = [PATH, b'# roads\ngraph 2 1\r\n0 1 7 # north\r\n', b'graph2 3 1\n7 1 409
 PICTURES = [b'P5\n2 2\n9\n\x00\x03\x03\x09', b'P5# a note\n3 1\n256\n\x01\x00\x00\x05\x00\x2c']
 BATCHES = [b'\x0c'.join([PATH, LOOP, b'', PICTURES[0]]), b'graph 1 0 # \x0c graph 1 0\x0c']
 
+# Words that ask for nothing.
+UNASKED = ['', 'forest', 'tree tree', 'tree --tile 0', '--tile 8', 'tree --level 3', 'tree --form pgm --form pgm']
 
 # A comment that takes several reads.
 NOTE = b'#' * 30_000 + b'\n'
@@ -117,6 +121,15 @@ def cuts(program, folder):
             yield ran == program.wanted(data[:length]), f'{data[:length]!r}', ran
 
 
+def unasked(program, folder):
+    """Words that ask for nothing: none of the input is read."""
+    source = kept_in(folder, 'input', program.inputs[0])
+    for words in UNASKED:
+        with open(source, 'rb') as given:
+            ran, place = run(program.command + words.split(), given), os.lseek(given.fileno(), 0, os.SEEK_CUR)
+        yield ran == USAGE and place == 0, f'{words!r}', ran
+
+
 def closed(program, folder):
     """Standard input is a folder, standard output takes nothing."""
     source = kept_in(folder, 'input', program.inputs[0])
@@ -149,7 +162,7 @@ def main():
     passed = []
     with tempfile.TemporaryDirectory(prefix='higra-outside-') as folder:
         for program in programs:
-            passed += [tried(program, kind, folder) for kind in (reads, writes, rooms, cuts, closed)]
+            passed += [tried(program, kind, folder) for kind in (reads, writes, rooms, cuts, unasked, closed)]
     print(f'{sum(passed)} passed, {len(passed) - sum(passed)} failed')
     sys.exit(0 if all(passed) else 1)
 

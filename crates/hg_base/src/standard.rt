@@ -1,7 +1,7 @@
 // Sources and sinks over the readers and writers of std.
 ghost use Rattle.std.specs.Prelude.{◌≡◌, ◌<◌, ◌≤◌, length, take, drop, None, IfSome, IfNone, IfOk, OnErr, MatchResult};
 ghost use Rattle.std.specs.Io.KnownBytes.{Appends, ReadConsumes, WriteAppends};
-ghost use Rattle.hg_base.specs.Outside.{HasCause, AppendsPrefix};
+ghost use Rattle.hg_base.specs.Outside.{HasCause, AppendsPrefix, raised};
 
 use super::fault::Failed;
 use super::outside::{Sink, Source, copy_front};
@@ -47,6 +47,9 @@ impl<R: Read> Source for StdSource<R> {
         ensures kept { MatchResult result (λ n. drop n into.new ≡ drop n into.old) (λ _. into.new ≡ into.old) }
         ensures bytes { ReadConsumes None None result into.new }
         ensures cause { HasCause self.old.faults self.new.faults result }
+
+        // A failure raises the count of faults by one, as far as it goes.
+        ensures counted { OnErr result (self.new.faults ≡ raised self.old.faults) }
 
         // What was moved is what the reader gave, where the reader tells it.
         ensures moved { ReadConsumes (R.remaining self.old.inner) (R.remaining self.new.inner) result into.new }
@@ -103,6 +106,9 @@ impl<W: Write> Sink for StdSink<W> {
         ensures some { IfOk result (λ n. 0 < length piece.now → 0 < n) }
         ensures bytes { WriteAppends None None result piece.now }
         ensures cause { HasCause self.old.faults self.new.faults result }
+
+        // A failure raises the count of faults by one, as far as it goes.
+        ensures counted { OnErr result (self.new.faults ≡ raised self.old.faults) }
 
         // What was taken is what the writer took, where the writer tells it. It may have taken a
         // prefix of the piece before it failed.

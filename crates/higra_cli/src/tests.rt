@@ -1,5 +1,11 @@
-use super::{Form, Report, Request, Status, Words, WordsFault, exit_code, request_of, run};
-use hg_base::{Failed, MemSink, MemSource, OpenGate, OutOfMemory, Sink, Source};
+use super::{
+    Form, Report, Request, RunFault, Status, Words, WordsFault, exit_code, input_for, report,
+    request_of, run,
+};
+use hg_base::{
+    Failed, FaultKind, InputFault, MemSink, MemSource, OpenGate, OutOfMemory, Sink, Source,
+};
+use merge_board::Receipt;
 use std::alloc::{AllocError, Global};
 use std::process::Abort;
 use std::test::Fail;
@@ -305,6 +311,62 @@ fn reports_that_are_refused(rt: HostRuntime) -> Result<(), Fail> {
     for (words, input, line) in rows {
         runs_on(&rt, rt.alloc(), words, input, (3, "", line))?;
     }
+    Ok(())
+}
+
+// What is made of the report that the words ask for, about an input.
+fn report_on(
+    rt: &(impl Threads + Sync),
+    alloc: Global,
+    texts: &[&str],
+    input: &str,
+) -> Result<Result<(Vec<u8>, Receipt), RunFault>, Fail> {
+    let words = words_of(alloc, texts)?;
+    let request = request_of(alloc, &words).or(Err("no request"))?;
+    let mut source = source_of(alloc, input, 0)?;
+    let input = input_for(alloc, request.made, &mut source).or(Err("no input"))?;
+    Ok(report(rt, alloc, &request, &input, &OpenGate))
+}
+
+// Each form of a report, with the numbers of tiles, workers and edges of its receipt.
+#[test]
+fn reports_without_a_run(rt: HostRuntime) -> Result<(), Fail> {
+    let rows: [(&[&str], &str, &str, (u32, u32, u64)); 2] = [
+        (
+            &["cut", "--level", "1", "--tile", "2", "--workers", "3"],
+            "graph 4 3\n0 1 1\n1 2 5\n2 3 2\n",
+            "labels 4 3\n0 1\n1 1\n2 2\n3 3\n",
+            (2, 3, 3),
+        ),
+        (
+            &["cut", "--level", "1", "--form", "pgm"],
+            "P5\n2 2\n9\n\0\x03\x03\t",
+            "P5\n2 2\n4\n\x01\x02\x03\x04",
+            (1, 4, 4),
+        ),
+    ];
+    for (words, input, bytes, numbers) in rows {
+        let made = report_on(&rt, rt.alloc(), words, input)?;
+        let (written, receipt) = made.or(Err("no report"))?;
+        assert_eq!(rt; written.as_slice(), bytes.as_bytes());
+        assert_eq!(rt;
+            (receipt.tiles(), receipt.workers(), receipt.edges()),
+            numbers
+        );
+    }
+    Ok(())
+}
+
+#[test]
+fn a_report_that_is_refused_without_a_run(rt: HostRuntime) -> Result<(), Fail> {
+    let words = ["energy", "--form", "pgm"];
+    let made = report_on(&rt, rt.alloc(), &words, "graph 4 3\n0 1 1\n1 2 5\n2 3 2\n")?;
+    let fault = InputFault {
+        kind: FaultKind::NotAPicture,
+        at: 0,
+        value: 0,
+    };
+    assert_eq!(rt; made.err(), Some(RunFault::Input(fault)));
     Ok(())
 }
 

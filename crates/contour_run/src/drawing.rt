@@ -6,7 +6,7 @@ ghost use Rattle.extinction.specs.Hierarchy.{hierarchy_of};
 ghost use Rattle.hg_base.specs.Tree.{graph_tree};
 ghost use Rattle.pgm_reader.specs.Grid as grid;
 ghost use Rattle.higra_cli.specs.Inputs.{graph_of};
-ghost use Rattle.higra_cli.specs.Ordered.{IsTreeOf};
+ghost use Rattle.graph_hierarchy.specs.Hierarchies.{IsTreeOf};
 ghost use Rattle.higra_cli.specs.Reports.{cut_tree};
 ghost use Rattle.higra_cli.specs.Running.{IsHierarchy};
 ghost use Rattle.contour_run.specs.Drawing.{AreDrawn, contours_receipt};

@@ -8,7 +8,7 @@ use Rattle.hg_base.specs.Rank.{listed, rank, ranked}
 use Rattle.hg_base.specs.Saliency.{at_most}
 use Rattle.hg_base.proofs.Levels.{level-tree}
 use Rattle.hg_base.proofs.Members.{IsIn-below_kept}
-use Rattle.hg_base.proofs.Ranked.{AreWithin-ranked, IsIn-ranked}
+use Rattle.hg_base.proofs.Ranked.{IsIn-ranked, ends-within}
 use Rattle.hg_base.proofs.Sets.{IsIn-joins, joined-among}
 use Rattle.hg_base.proofs.Walks.{IsSame-joined, Joined-joined, joined-ends}
 use Rattle.extinction.specs.Hierarchy.{by_persistence, hierarchy_edges, hierarchy_of}
@@ -20,7 +20,6 @@ use Rattle.saliency.specs.Values.{EndsShareRoots}
 use Rattle.watershed_cut.proofs.Hits.{joined_into}
 use Rattle.watershed_cut.proofs.Quiet.{at_most-from}
 use Rattle.watershed_cut.proofs.Star.{map-in}
-use Rattle.higra_cli.proofs.WatershedLemmas.{ends-within}
 
 -- a weight that no edge of the list is above
 pub weight_above : (s : EdgeList) → (k : ℕ) × ((e : ListedEdge) → IsIn e s → e.weight ≤ k)
@@ -57,7 +56,7 @@ hierarchy_shares g kind is e h =
     let s = hierarchy_edges (ranked g) (persistences_of g kind) in
     let list = hierarchy-list g is kind in
     let forest = hierarchy-forest g is kind in
-    let ends = ends-within g e (AreWithin-ranked g is) h in
+    let ends = ends-within g is e h in
     let top = weight_above s in
     let own : joined s (first_end g e) (second_end g e) ≡ true = hierarchy-joins g kind (listed g (rank g e) e) (IsIn-ranked g e h) in
     let light : joined (at_most s top.0) (first_end g e) (second_end g e) ≡ true = joined-among s (at_most s top.0) (first_end g e) (second_end g e) (λ f i. at_most-from s top.0 f i (top.1 f i)) own in

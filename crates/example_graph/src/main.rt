@@ -16,8 +16,8 @@ const WEIGHTS: [u32; 12] = [3, 1, 4, 1, 5, 9, 2, 6, 5, 3, 5, 8];
 
 fn write_reports(rt: &(impl Threads + Sync), alloc: Global, out: &mut impl Sink) -> Option<()> {
     let mut edges = Vec::new(alloc);
-    for (u, w) in (0..12).zip(WEIGHTS) {
-        let v = (u + 1) % 12;
+    for u in 0..12_u32 {
+        let (v, w) = ((u + 1) % 12, WEIGHTS[u as usize]);
         edges.push(Edge { u, v, w }).ok()?;
     }
     let graph = Graph::from_edges(12, edges).ok()?;

@@ -38,8 +38,8 @@ fn assert_tree(
         rt,
         "ample memory",
     );
-    assert_eq!(rt; made.tree.parents(), &[5, 4, 4, 5, 6, 6, 6]);
-    assert_eq!(rt; made.tree.altitudes(), &[0, 0, 0, 0, 1, 2, 5]);
+    assert_eq!(rt; made.tree.parents(), [5, 4, 4, 5, 6, 6, 6].as_slice());
+    assert_eq!(rt; made.tree.altitudes(), [0, 0, 0, 0, 1, 2, 5].as_slice());
     assert_eq!(rt; made.order.len(), 4);
     assert_eq!(rt; made.receipt.tiles(), tiles);
     assert_eq!(rt; made.receipt.workers(), workers);

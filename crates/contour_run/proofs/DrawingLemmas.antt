@@ -2,16 +2,16 @@
 use Rattle.std.proofs.Common.{◌≡◌, None, sym, subst}
 use Rattle.extinction.specs.Hierarchy.{hierarchy_of}
 use Rattle.extinction.specs.declared.kind.Kind.{Kind}
+use Rattle.graph_hierarchy.specs.Tilings.{receipt_in}
+use Rattle.graph_hierarchy.specs.declared.tiling.Tiling.TheVariants.{Squares}
 use Rattle.hg_base.specs.Graph.{WeightedGraph, IsGraph}
 use Rattle.hg_base.specs.Tree.{ParentTree}
+use Rattle.merge_board.specs.Seats.{ReceiptState}
 use Rattle.pgm_reader.specs.Raster.{Raster}
 use Rattle.saliency.specs.Values.{EndsShareRoots}
-use Rattle.tile_plan.specs.Plan.{squares}
 use Rattle.higra_cli.proofs.PlanningLemmas.{edges_in, receipt_squares}
 use Rattle.higra_cli.specs.Inputs.{graph_of}
-use Rattle.higra_cli.specs.Planning.{IsPlanOf, receipt_over}
 use Rattle.higra_cli.specs.declared.input.Input.TheVariants.{Picture}
-use Rattle.higra_cli.specs.declared.planning.Planned.{Planned}
 use Rattle.higra_cli.specs.declared.request.Form.TheVariants.{Text}
 use Rattle.higra_cli.specs.declared.request.Report.TheVariants.{Tree}
 use Rattle.contour_run.proofs.SharingLemmas.{hierarchy_shares}
@@ -22,8 +22,8 @@ use Rattle.contour_run.specs.declared.request.ContourRequest.{ContourRequest}
 pub hierarchy_roots : (g : WeightedGraph) (kind : Kind) (t : ParentTree) → IsGraph g → t ≡ hierarchy_of g kind → EndsShareRoots g t
 hierarchy_roots g kind t is same = subst (λ (u : ParentTree). EndsShareRoots g u) (sym same) (hierarchy_shares g kind is)
 
--- the receipt of a picture's plan is that of the request
-pub receipt_drawn : (request : ContourRequest) (r : Raster) (g : WeightedGraph) (planned : Planned) → IsPlanOf g (squares g r.width r.height request.tile) planned → g ≡ graph_of (Picture r)
-    → receipt_over planned.plan request.workers ≡ contours_receipt request (Picture r)
-receipt_drawn request r g planned is same =
-    receipt_squares (record { report = Tree; tile = request.tile; workers = request.workers; form = Text; made = None }) r g planned is (edges_in r g same)
+-- the receipt of a picture's graph is that of the request
+pub receipt_drawn : (request : ContourRequest) (r : Raster) (g : WeightedGraph) (receipt : ReceiptState) → receipt ≡ receipt_in g (Squares r.width r.height request.tile) request.workers → g ≡ graph_of (Picture r)
+    → receipt ≡ contours_receipt request (Picture r)
+receipt_drawn request r g receipt is same =
+    receipt_squares (record { report = Tree; tile = request.tile; workers = request.workers; form = Text; made = None }) r g receipt is (edges_in r g same)

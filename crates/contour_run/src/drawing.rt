@@ -6,7 +6,7 @@ ghost use Rattle.extinction.specs.Hierarchy.{hierarchy_of};
 ghost use Rattle.hg_base.specs.Tree.{graph_tree};
 ghost use Rattle.pgm_reader.specs.Grid as grid;
 ghost use Rattle.higra_cli.specs.Inputs.{graph_of};
-ghost use Rattle.higra_cli.specs.Ordered.{IsTreeOf};
+ghost use Rattle.graph_hierarchy.specs.Hierarchies.{IsTreeOf};
 ghost use Rattle.higra_cli.specs.Reports.{cut_tree};
 ghost use Rattle.higra_cli.specs.Running.{IsHierarchy};
 ghost use Rattle.contour_run.specs.Drawing.{AreDrawn, contours_receipt};
@@ -15,8 +15,9 @@ ghost use Rattle.contour_run.specs.Running.{CanDraw};
 use super::request::ContourRequest;
 use contour_map::draw_contours;
 use edge_order::Order;
+use graph_hierarchy::GraphHierarchy;
 use hg_base::{FaultKind, Gate, Graph, InputFault, OutOfMemory};
-use higra_cli::{Basins, Input, Kind, RunFault, plan_pixels, tree_of};
+use higra_cli::{Basins, Input, Kind, RunFault, pixels_hierarchy};
 use merge_board::Receipt;
 use partition_tree::Tree;
 use pgm_reader::{Picture, graph_of};
@@ -64,10 +65,13 @@ fn draw_picture<G: Gate>(
     ensures hierarchy { IfOk result (λ _. IsHierarchy (graph_of (Input.Picture picture.now))) }
 {
     let graph = graph_of(rt, alloc, picture)?;
-    let planned = plan_pixels(rt, alloc, picture, &graph, request.tile)?;
-    let (tree, receipt) = tree_of(rt, alloc, &graph, &planned, request.workers, gate)?;
-    let order = &planned.order;
-    let bytes = contours_by(rt, alloc, request.kind, picture, &graph, order, &tree)?;
+    let (tile, workers) = (request.tile, request.workers);
+    let GraphHierarchy {
+        order,
+        tree,
+        receipt,
+    } = pixels_hierarchy(rt, alloc, picture, &graph, tile, workers, gate)?;
+    let bytes = contours_by(rt, alloc, request.kind, picture, &graph, &order, &tree)?;
     Ok((bytes, receipt))
 }
 

@@ -5,7 +5,7 @@ use Rattle.extinction.specs.declared.kind.Kind.{Kind}
 use Rattle.hg_base.specs.Graph.{WeightedGraph}
 use Rattle.hg_base.specs.Tree.{ParentTree, graph_tree}
 use Rattle.hg_base.specs.Zones.{zones_of}
-use Rattle.higra_cli.specs.Ordered.{IsTreeOf}
+use Rattle.graph_hierarchy.specs.Hierarchies.{IsTreeOf}
 use Rattle.higra_cli.specs.Reports.{cut_tree, regions}
 
 -- the regions of the graph's own tree

@@ -17,7 +17,7 @@ use Rattle.hg_base.specs.Graph.{WeightedGraph, IsGraph}
 use Rattle.hg_base.specs.Levels.{is_above}
 use Rattle.hg_base.specs.Tree.{ParentTree, altitude, graph_tree}
 use Rattle.partition_tree.specs.Forest.{nodes}
-use Rattle.higra_cli.specs.Ordered.{IsTreeOf}
+use Rattle.graph_hierarchy.specs.Hierarchies.{IsTreeOf}
 use Rattle.higra_cli.specs.Reports.{graph_energies, graph_energy_cut}
 
 -- altitudes are weights

@@ -2,7 +2,6 @@ pub mod AltitudeLemmas
 pub mod CommandLemmas
 pub mod DrawingLemmas
 pub mod LineLemmas
-pub mod MergingLemmas
 pub mod NumberLemmas
 pub mod OrderedLemmas
 pub mod PictureFaults

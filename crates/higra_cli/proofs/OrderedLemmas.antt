@@ -1,7 +1,6 @@
 -- The tree of a graph, and the texts of reports about it.
 use Rattle.std.proofs.Common.{◌≡◌, ◌≤◌, [], length, refl, sym, subst, arith}
 use Rattle.hg_base.specs.Graph.{WeightedGraph, IsGraph, first_end, second_end}
-use Rattle.hg_base.specs.Levels.{AltitudesRise}
 use Rattle.hg_base.specs.Rank.{ranked}
 use Rattle.hg_base.specs.Saliencies.{saliency}
 use Rattle.hg_base.specs.Tree.{ParentTree, graph_tree}
@@ -10,15 +9,10 @@ use Rattle.hg_base.proofs.Ranked.{AreApart-ranked, AreByWeight-ranked, AreWithin
 use Rattle.hg_base.proofs.Saliencies.{saliency-is}
 use Rattle.partition_tree.specs.Forest.{IsForest}
 use Rattle.partition_tree.proofs.PathLemmas.{common-shares}
-use Rattle.partition_tree.proofs.TreeLemmas.{tree-rises}
 use Rattle.saliency.specs.Values.{EndsShareRoots}
-use Rattle.higra_cli.specs.Ordered.{IsTreeOf}
+use Rattle.graph_hierarchy.specs.Hierarchies.{IsTreeOf}
 use Rattle.higra_cli.specs.Running.{IsHierarchy}
 use Rattle.higra_cli.proofs.HierarchyLemmas.{hierarchy-is}
-
--- the tree of a graph
-pub tree_is : (g : WeightedGraph) (t : ParentTree) → IsGraph g → t ≡ graph_tree g → IsForest t → IsTreeOf g t
-tree_is g t graph same forest = record { same = same; forest = forest; rises = subst AltitudesRise (sym same) (tree-rises g.n (ranked g) (AreApart-ranked g) (AreByWeight-ranked g)); graph = graph }
 
 -- the ends of each edge are below one root
 ends-share : (g : WeightedGraph) → IsGraph g → IsForest (graph_tree g) → EndsShareRoots g (graph_tree g)

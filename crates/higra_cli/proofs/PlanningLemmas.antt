@@ -1,23 +1,22 @@
 -- Tiles that are too many, and faults that come before others.
-use Rattle.std.proofs.Common.{◌≡◌, ℕ, ◌*◌, ◌<◌, ◌≤◌, length, Option, Some, None, Ok, Err, refl, sym, ap, ◌∙◌, subst, arith}
+use Rattle.std.proofs.Common.{◌≡◌, ℕ, ◌*◌, ◌<◌, ◌≤◌, length, Option, Some, None, Err, refl, sym, ap, ◌∙◌, subst}
 use Rattle.std.proofs.lemmas.Bool.{lt-ltb, le-ltb}
-use Rattle.std.proofs.lemmas.List.FromFn.{length-map-range_with_len}
-use Rattle.edge_order.specs.Order.{order_of}
-use Rattle.hg_base.specs.Edges.{EdgeList}
+use Rattle.graph_hierarchy.specs.Hierarchies.{IsHierarchyMade, IsHierarchyOf}
+use Rattle.graph_hierarchy.specs.Tilings.{receipt_in}
+use Rattle.graph_hierarchy.specs.declared.fault.HierarchyFault.{HierarchyFault}
+use Rattle.graph_hierarchy.specs.declared.fault.HierarchyFault.TheVariants as hierarchies
+use Rattle.graph_hierarchy.specs.declared.hierarchy.GraphHierarchy.{GraphHierarchy}
+use Rattle.graph_hierarchy.specs.declared.tiling.Tiling.{Tiling}
+use Rattle.graph_hierarchy.specs.declared.tiling.Tiling.TheVariants.{Squares}
 use Rattle.hg_base.specs.Graph.{WeightedGraph}
-use Rattle.hg_base.specs.Rank.{listed, number_at, ranked}
 use Rattle.hg_base.specs.declared.fault.InputFault.{InputFault}
 use Rattle.hg_base.specs.declared.fault.FaultKind.TheVariants.{TooManyTiles}
+use Rattle.merge_board.specs.Seats.{ReceiptState}
 use Rattle.pgm_reader.specs.Raster.{Raster}
-use Rattle.tile_plan.specs.Plan.{IsAnswer, TilePlan, blocks, squares, tile_count}
-use Rattle.tile_plan.specs.declared.fault.PlanFault.{PlanFault}
-use Rattle.tile_plan.specs.declared.fault.PlanFault.TheVariants as plans
 use Rattle.higra_cli.specs.Inputs.{graph_of}
-use Rattle.higra_cli.specs.Planning.{IsPlanOf, IsPlanOver, IsPlanned, order_in, receipt_over, run_fault}
+use Rattle.higra_cli.specs.Planning.{IsMadeIn, IsPlanned, run_fault}
 use Rattle.higra_cli.specs.Reports.{◌before◌, receipt_of, tile_fault, tiles_of}
-use Rattle.higra_cli.specs.declared.input.Input.{Input}
-use Rattle.higra_cli.specs.declared.input.Input.TheVariants.{Edges, Picture}
-use Rattle.higra_cli.specs.declared.planning.Planned.{Planned}
+use Rattle.higra_cli.specs.declared.input.Input.TheVariants.{Picture}
 use Rattle.higra_cli.specs.declared.request.Request.{Request}
 use Rattle.higra_cli.specs.declared.writing.RunFault.{RunFault}
 
@@ -34,47 +33,20 @@ many_tiles : (count : ℕ) → 65536 < count → tile_fault count ≡ Some (too_
 unfolding tile_fault
 many_tiles count many = rw (lt-ltb _ _ many) refl
 
--- the squares of a picture of these sides
-pub squared : (g : WeightedGraph) (w h width height tile : ℕ) → w ≡ width → h ≡ height → squares g w h tile ≡ squares g width height tile
-squared g w h width height tile wide high = ap (λ (x : ℕ). squares g x h tile) wide ∙ ap (λ (x : ℕ). squares g width x tile) high
+-- order and tree that were made
+pub planned_is : (g : WeightedGraph) (tiling : Tiling) (workers : ℕ) (made : GraphHierarchy) → IsHierarchyOf g tiling workers made → IsMadeIn g tiling workers made
+planned_is g tiling workers made is = record { own = is; few = few_tiles _ is.few }
 
--- an order and a plan that were made
-pub planned_is : (g : WeightedGraph) (plan made : TilePlan) (planned : Planned) → planned.order ≡ order_of g → planned.plan ≡ made → IsAnswer plan (Ok made) → IsPlanOf g plan planned
-planned_is g plan made planned order own answer = record { order = order; own = own ∙ answer.0; few = few_tiles _ answer.1 }
+-- a tree that couldn't be made
+pub plan_refused : (g : WeightedGraph) (tiling : Tiling) (workers : ℕ) (why : HierarchyFault) (fault : RunFault) → IsHierarchyMade g tiling workers (Err why) → fault ≡ run_fault why → IsPlanned g tiling workers (Err fault)
+plan_refused g tiling workers (hierarchies.TooManyTiles count) fault answer is =
+    subst (λ (f : RunFault). IsPlanned g tiling workers (Err f)) (sym is) (many_tiles _ answer.1 ∙ ap (λ (n : ℕ). Some (too_many n)) (sym answer.0))
+plan_refused g tiling workers hierarchies.OutOfMemory fault answer is = subst (λ (f : RunFault). IsPlanned g tiling workers (Err f)) (sym is) tt
 
--- a plan that couldn't be made
-pub plan_refused : (g : WeightedGraph) (plan : TilePlan) (why : PlanFault) (fault : RunFault) → IsAnswer plan (Err why) → fault ≡ run_fault why → IsPlanned g plan (Err fault)
-plan_refused g plan (plans.TooManyTiles count) fault answer is = subst (λ (f : RunFault). IsPlanned g plan (Err f)) (sym is) (many_tiles _ answer.1 ∙ ap (λ (n : ℕ). Some (too_many n)) (sym answer.0))
-plan_refused g plan plans.OutOfMemory fault answer is = subst (λ (f : RunFault). IsPlanned g plan (Err f)) (sym is) tt
-
--- a plan over as many vertices as the graph has
-pub over_blocks : (g : WeightedGraph) (tile : ℕ) (planned : Planned) → IsPlanOf g (blocks g tile) planned → IsPlanOver g planned
-over_blocks g tile planned is =
-    let one : g.n ≡ g.n * 1 = omega arith in
-    record { graph = is.order; plan = is.order ∙ ap (λ (n : ℕ). record { n = n; edges = ranked g }) one ∙ ap order_in (sym is.own) }
-
-pub over_squares : (g : WeightedGraph) (width height tile : ℕ) (planned : Planned) → width * height ≡ g.n → IsPlanOf g (squares g width height tile) planned → IsPlanOver g planned
-over_squares g width height tile planned pixels is =
-    record { graph = is.order; plan = is.order ∙ ap (λ (n : ℕ). record { n = n; edges = ranked g }) (sym pixels) ∙ ap order_in (sym is.own) }
-
--- a graph has as many ranked edges as edges
-ranked-length : (g : WeightedGraph) → length (ranked g) ≡ length g.edges
-ranked-length g = length-map-range_with_len (λ k. listed g k (number_at g k)) 0 (length g.edges)
-
--- the receipt of a plan of so many tiles, over a graph of so many edges as the input's, is that of the request
-receipt-by : (request : Request) (input : Input) (g : WeightedGraph) (plan : TilePlan) (planned : Planned) → IsPlanOf g plan planned → tile_count plan ≡ tiles_of request input → plan.edges ≡ ranked g
-    → length g.edges ≡ length (graph_of input).edges → receipt_over planned.plan request.workers ≡ receipt_of request input
-receipt-by request input g plan planned is tiles edges same =
-    ap (λ (p : TilePlan). receipt_over p request.workers) is.own
-    ∙ ap (λ (t : ℕ). record { tiles = t; workers = request.workers; edges = length plan.edges }) tiles
-    ∙ ap (λ (m : ℕ). record { tiles = tiles_of request input; workers = request.workers; edges = m }) (ap (λ (es : EdgeList). length es) edges ∙ ranked-length g ∙ same)
-
-pub receipt_blocks : (request : Request) (g : WeightedGraph) (planned : Planned) → IsPlanOf g (blocks g request.tile) planned → receipt_over planned.plan request.workers ≡ receipt_of request (Edges g)
-receipt_blocks request g planned is = receipt-by request (Edges g) g (blocks g request.tile) planned is refl refl refl
-
-pub receipt_squares : (request : Request) (r : Raster) (g : WeightedGraph) (planned : Planned) → IsPlanOf g (squares g r.width r.height request.tile) planned → length g.edges ≡ length (graph_of (Picture r)).edges
-    → receipt_over planned.plan request.workers ≡ receipt_of request (Picture r)
-receipt_squares request r g planned is same = receipt-by request (Picture r) g (squares g r.width r.height request.tile) planned is refl refl same
+-- the receipt of a graph with as many edges as a picture's is that of the request
+pub receipt_squares : (request : Request) (r : Raster) (g : WeightedGraph) (receipt : ReceiptState) → receipt ≡ receipt_in g (Squares r.width r.height request.tile) request.workers → length g.edges ≡ length (graph_of (Picture r)).edges
+    → receipt ≡ receipt_of request (Picture r)
+receipt_squares request r g receipt is same = is ∙ ap (λ (m : ℕ). record { tiles = tiles_of request (Picture r); workers = request.workers; edges = m }) same
 
 -- where the first fault isn't there, the second is the one
 pub before_none : (a b c : Option InputFault) → a ≡ None → b ≡ c → (a before b) ≡ c

@@ -5,7 +5,6 @@ pub mod Exiting
 pub mod Feeding
 pub mod Given
 pub mod Inputs
-pub mod Ordered
 pub mod Planning
 pub mod Reading
 pub mod Reports

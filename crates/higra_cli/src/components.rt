@@ -7,15 +7,15 @@ ghost use Rattle.component_tree.specs.Weighed.{weighed_graph};
 ghost use Rattle.hg_base.specs.Rank.{ranked};
 ghost use Rattle.higra_cli.specs.Inputs.{graph_of};
 ghost use Rattle.higra_cli.specs.Reports.{IsReportIn, component_side, receipt_of};
-ghost use Rattle.higra_cli.specs.Ordered.{IsTreeOf};
+ghost use Rattle.graph_hierarchy.specs.Hierarchies.{IsTreeOf};
 ghost use Rattle.higra_cli.specs.Running.{CanReport, HasComponents, IsHierarchy};
 
 use super::input::Input;
-use super::merging::tree_of;
-use super::planning::plan_pixels;
+use super::planning::pixels_hierarchy;
 use super::request::{Form, Report, Request};
 use super::writing::RunFault;
 use component_tree::{Side, Values, component_tree, components_pieces, weighed};
+use graph_hierarchy::GraphHierarchy;
 use hg_base::{FaultKind, Gate, Graph, InputFault, OutOfMemory};
 use merge_board::Receipt;
 use partition_tree::Tree;
@@ -86,8 +86,10 @@ fn components_of<G: Gate>(
     let values = values_of(alloc, picture)?;
     let graph = graph_of(rt, alloc, picture)?;
     let weighed = weighed(alloc, &graph, &values, side)?;
-    let planned = plan_pixels(rt, alloc, picture, &weighed, request.tile)?;
-    let (tree, receipt) = tree_of(rt, alloc, &weighed, &planned, request.workers, gate)?;
+    let (tile, workers) = (request.tile, request.workers);
+    let GraphHierarchy { tree, receipt, .. } = pixels_hierarchy(
+        rt, alloc, picture, &weighed, tile, workers, gate,
+    )?;
     let pieces = components_text(rt, alloc, side, &values, &graph, &weighed, &tree)?;
     Ok((pieces, receipt))
 }

@@ -6,20 +6,20 @@ ghost use Rattle.pgm_reader.specs.Grid as grid;
 ghost use Rattle.watershed_cut.specs.Watershed.{watershed_of};
 ghost use Rattle.higra_cli.specs.Drawing.{AreDrawn, IsDrawn};
 ghost use Rattle.higra_cli.specs.Inputs.{graph_of};
-ghost use Rattle.higra_cli.specs.Ordered.{IsTreeOf};
+ghost use Rattle.graph_hierarchy.specs.Hierarchies.{IsTreeOf};
 ghost use Rattle.higra_cli.specs.Reports.{IsReportIn, component_side, cut_tree, graph_energy_cut, labels_of, receipt_of, regions};
 ghost use Rattle.higra_cli.specs.Request.{can_be_drawn};
 ghost use Rattle.higra_cli.specs.Running.{CanReport, HasComponents, IsHierarchy};
 
 use super::hierarchies::{energies, regions};
 use super::input::Input;
-use super::merging::tree_of;
-use super::planning::plan_pixels;
+use super::planning::pixels_hierarchy;
 use super::request::{Form, Report, Request};
 use super::writing::RunFault;
 use edge_order::Order;
 use energy_cut::least_cut;
 use extinction::Kind;
+use graph_hierarchy::GraphHierarchy;
 use hg_base::{FaultKind, Gate, Graph, InputFault, Labels};
 use label_writer::{LabelFault, write_pgm};
 use merge_board::Receipt;
@@ -79,10 +79,13 @@ fn drawing<G: Gate>(
     ensures components { IfOk result (λ _. HasComponents (component_side request.now.report) (Input.Picture picture.now)) }
 {
     let graph = graph_of(rt, alloc, picture)?;
-    let planned = plan_pixels(rt, alloc, picture, &graph, request.tile)?;
-    let (tree, receipt) = tree_of(rt, alloc, &graph, &planned, request.workers, gate)?;
-    let report = request.report;
-    let pieces = draw_report(alloc, report, &graph, &planned.order, &tree, picture)?;
+    let (tile, workers) = (request.tile, request.workers);
+    let GraphHierarchy {
+        order,
+        tree,
+        receipt,
+    } = pixels_hierarchy(rt, alloc, picture, &graph, tile, workers, gate)?;
+    let pieces = draw_report(alloc, request.report, &graph, &order, &tree, picture)?;
     Ok((pieces, receipt))
 }
 

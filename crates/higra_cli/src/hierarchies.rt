@@ -8,7 +8,7 @@ ghost use Rattle.hg_base.specs.Levels.{AltitudesRise};
 ghost use Rattle.hg_base.specs.Tree.{graph_tree};
 ghost use Rattle.partition_tree.specs.Forest.{nodes};
 ghost use Rattle.watershed_cut.specs.MinimumLabels.{minima_of};
-ghost use Rattle.higra_cli.specs.Ordered.{IsTreeOf};
+ghost use Rattle.graph_hierarchy.specs.Hierarchies.{IsTreeOf};
 ghost use Rattle.higra_cli.specs.Reports.{cut_tree, graph_energies, regions};
 
 use attributes::Attributes;

@@ -1,83 +1,92 @@
-// Planning the tiles of an input.
-ghost use Rattle.std.specs.Prelude.{◌≡◌, ◌*◌, ◌≤◌, IfOk};
-ghost use Rattle.tile_plan.specs.Plan.{blocks, squares};
-ghost use Rattle.higra_cli.specs.Planning.{IsPlanned, IsPlanOver};
+// The order and the tree of an input's graph, made over its tiles.
+ghost use Rattle.std.specs.Prelude.{◌≡◌, ◌*◌, ◌≤◌};
+ghost use Rattle.graph_hierarchy.specs.Tilings.{AreTiles};
+ghost use Rattle.higra_cli.specs.Planning.{IsPlanned};
 
 use super::writing::RunFault;
-use edge_order::Order;
-use hg_base::{FaultKind, Graph, InputFault};
+use graph_hierarchy::{GraphHierarchy, HierarchyFault, Tiling};
+use hg_base::{FaultKind, Gate, Graph, InputFault};
 use pgm_reader::Picture;
 use std::alloc::Global;
 use std::thread::Threads;
-use tile_plan::{Plan, PlanFault};
 
-impl From<PlanFault> for RunFault {
+impl From<HierarchyFault> for RunFault {
     ghost use Rattle.std.specs.Prelude.{◌≡◌};
     ghost use Rattle.higra_cli.specs.Planning.{run_fault};
 
-    ghost from_gives = { λ plan fault. fault ≡ run_fault plan };
+    ghost from_gives = { λ hierarchy fault. fault ≡ run_fault hierarchy };
 
-    fn from(fault: PlanFault) -> RunFault {
+    fn from(fault: HierarchyFault) -> RunFault {
         match fault {
-            PlanFault::TooManyTiles(count) => RunFault::Input(InputFault {
+            HierarchyFault::TooManyTiles(count) => RunFault::Input(InputFault {
                 kind: FaultKind::TooManyTiles,
                 at: 0,
                 value: count,
             }),
-            PlanFault::OutOfMemory => RunFault::OutOfMemory,
+            HierarchyFault::OutOfMemory => RunFault::OutOfMemory,
         }
     }
 }
 
-/// The order of a graph's edges, and the plan of its tiles.
-#[derive(Drop)]
-pub struct Planned {
-    pub order: Order,
-    pub plan: Plan,
-}
-
-/// The plan of a graph, in blocks of `tile` vertices. The fault is TooManyTiles, with the count, exactly where
-/// there are more than 65,536. Memory may run out.
-#[tactic(auto, using(crate::proofs::PlanningLemmas::planned_is, crate::proofs::PlanningLemmas::plan_refused))]
-pub(crate) fn plan_edges(
+/// The order and the tree of an edge list's graph, made in blocks of `tile` vertices by so many workers, who pass the gate.
+/// The input's fault is TooManyTiles, with the count, exactly where there are more than 65,536. Memory may run out.
+pub(crate) fn edges_hierarchy<G: Gate>(
     rt: &(impl Threads + Sync),
     alloc: Global,
     graph: &Graph,
     tile: u32,
-) -> Result<Planned, RunFault>
-    requires { 1 ≤ tile }
-    ensures plan { IsPlanned graph.now (blocks graph.now tile) result }
-    ensures over { IfOk result (IsPlanOver graph.now) }
+    workers: u32,
+    gate: &G,
+) -> Result<GraphHierarchy, RunFault>
+    requires tile { 1 ≤ tile }
+    requires some { 1 ≤ workers }
+    requires few { workers ≤ 64 }
+    ensures { IsPlanned graph.now (Tiling.Blocks tile) workers result }
 {
-    let order = Order::of(rt, alloc, graph)?;
-    let plan = Plan::blocks_in_threads(rt, alloc, graph, &order, tile)?;
-    Ok(Planned { order, plan })
+    hierarchy_in(rt, alloc, graph, Tiling::Blocks(tile), workers, gate)
 }
 
-/// The plan of a graph over the pixels of a picture, in squares of side `tile`. The fault is TooManyTiles, with the count,
-/// exactly where there are more than 65,536. Memory may run out.
-#[tactic(auto, using(crate::proofs::PlanningLemmas::planned_is, crate::proofs::PlanningLemmas::plan_refused))]
-pub fn plan_pixels(
+/// The order and the tree of a graph over the pixels of a picture, made in squares of side `tile` by so many workers, who
+/// pass the gate. The input's fault is TooManyTiles, with the count, exactly where there are more than 65,536. Memory may
+/// run out.
+pub fn pixels_hierarchy<G: Gate>(
     rt: &(impl Threads + Sync),
     alloc: Global,
     picture: &Picture,
     graph: &Graph,
     tile: u32,
-) -> Result<Planned, RunFault>
+    workers: u32,
+    gate: &G,
+) -> Result<GraphHierarchy, RunFault>
     requires tile { 1 ≤ tile }
     requires pixels { picture.now.width * picture.now.height ≡ graph.now.n }
-    ensures plan { IsPlanned graph.now (squares graph.now picture.now.width picture.now.height tile) result }
-    ensures over { IfOk result (IsPlanOver graph.now) }
+    requires some { 1 ≤ workers }
+    requires few { workers ≤ 64 }
+    ensures { IsPlanned graph.now (Tiling.Squares picture.now.width picture.now.height tile) workers result }
 {
-    let order = Order::of(rt, alloc, graph)?;
-    let plan = Plan::squares_in_threads(
-        rt,
-        alloc,
-        graph,
-        &order,
-        picture.width(),
-        picture.height(),
-        tile,
-    )?;
-    Ok(Planned { order, plan })
+    let squares = Tiling::Squares {
+        width: picture.width(),
+        height: picture.height(),
+        side: tile,
+    };
+    hierarchy_in(rt, alloc, graph, squares, workers, gate)
+}
+
+// The order and the tree of a graph, made in these tiles.
+#[tactic(auto, using(crate::proofs::PlanningLemmas::planned_is, crate::proofs::PlanningLemmas::plan_refused))]
+fn hierarchy_in<G: Gate>(
+    rt: &(impl Threads + Sync),
+    alloc: Global,
+    graph: &Graph,
+    tiling: Tiling,
+    workers: u32,
+    gate: &G,
+) -> Result<GraphHierarchy, RunFault>
+    requires tiling { AreTiles tiling graph.now.n }
+    requires some { 1 ≤ workers }
+    requires few { workers ≤ 64 }
+    ensures { IsPlanned graph.now tiling workers result }
+{
+    let made = GraphHierarchy::of(rt, alloc, graph, tiling, workers, gate)?;
+    Ok(made)
 }

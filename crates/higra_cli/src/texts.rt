@@ -17,7 +17,7 @@ ghost use Rattle.watershed_cut.specs.MinimumLabels.{minima_of};
 ghost use Rattle.watershed_cut.specs.Report.{minima_report, watershed_report};
 ghost use Rattle.watershed_cut.specs.Rooted.{cost};
 ghost use Rattle.watershed_cut.specs.Watershed.{watershed_of};
-ghost use Rattle.higra_cli.specs.Ordered.{IsTreeOf};
+ghost use Rattle.graph_hierarchy.specs.Hierarchies.{IsTreeOf};
 ghost use Rattle.higra_cli.specs.Reports.{cut_tree, graph_energies, graph_energy_cut, regions, text_of};
 ghost use Rattle.higra_cli.specs.Running.{IsHierarchy};
 

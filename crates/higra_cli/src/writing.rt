@@ -1,17 +1,18 @@
 // Making a report.
 ghost use Rattle.std.specs.Prelude.{◌≡◌, None, IfOk};
+ghost use Rattle.edge_order.specs.Order.{order_of};
+ghost use Rattle.graph_hierarchy.specs.Hierarchies.{IsTreeOf};
 ghost use Rattle.higra_cli.specs.Inputs.{graph_of};
-ghost use Rattle.higra_cli.specs.Planning.{IsPlanOver, receipt_over};
 ghost use Rattle.higra_cli.specs.Reports.{IsReport, IsReportIn, component_side, receipt_of, text_of};
 ghost use Rattle.higra_cli.specs.Running.{CanReport, HasComponents, IsHierarchy};
 
 use super::components::{component_side, components_about};
 use super::drawing::picture_about;
 use super::input::Input;
-use super::merging::tree_of;
-use super::planning::{Planned, plan_edges, plan_pixels};
-use super::request::{Form, Request};
+use super::planning::{edges_hierarchy, pixels_hierarchy};
+use super::request::{Form, Report, Request};
 use super::texts::text_of;
+use graph_hierarchy::GraphHierarchy;
 use hg_base::{Gate, Graph, InputFault, OutOfMemory};
 use merge_board::Receipt;
 use pgm_reader::graph_of;
@@ -116,7 +117,7 @@ fn text_about<G: Gate>(
 }
 
 // The text of a report about the graph of an input, and the receipt.
-#[tactic(auto, using(crate::proofs::ComponentLemmas::graph_accepted, crate::proofs::ComponentLemmas::graph_refused, crate::proofs::ComponentLemmas::graph_text, crate::proofs::ComponentLemmas::no_components, crate::proofs::PlanningLemmas::receipt_blocks, crate::proofs::PlanningLemmas::receipt_squares, crate::proofs::PlanningLemmas::pixels_in, crate::proofs::PlanningLemmas::edges_in))]
+#[tactic(auto, using(crate::proofs::ComponentLemmas::graph_accepted, crate::proofs::ComponentLemmas::graph_refused, crate::proofs::ComponentLemmas::graph_text, crate::proofs::ComponentLemmas::no_components, crate::proofs::PlanningLemmas::receipt_squares, crate::proofs::PlanningLemmas::pixels_in, crate::proofs::PlanningLemmas::edges_in))]
 fn text_about_graph<G: Gate>(
     rt: &(impl Threads + Sync),
     alloc: Global,
@@ -133,33 +134,37 @@ fn text_about_graph<G: Gate>(
 {
     match input {
         Input::Edges(graph) => {
-            let planned = plan_edges(rt, alloc, graph, request.tile)?;
-            Ok(text(rt, alloc, request, graph, &planned, gate)?)
+            let made = edges_hierarchy(rt, alloc, graph, request.tile, request.workers, gate)?;
+            Ok(text(rt, alloc, request.report, graph, made)?)
         }
         Input::Picture(picture) => {
             let graph = graph_of(rt, alloc, picture)?;
-            let planned = plan_pixels(rt, alloc, picture, &graph, request.tile)?;
-            Ok(text(rt, alloc, request, &graph, &planned, gate)?)
+            let (tile, workers) = (request.tile, request.workers);
+            let made = pixels_hierarchy(rt, alloc, picture, &graph, tile, workers, gate)?;
+            Ok(text(rt, alloc, request.report, &graph, made)?)
         }
     }
 }
 
-// The text of a report about a planned graph, and the receipt.
-fn text<G: Gate>(
+// The text of a report about a graph, whose order and tree these are, and the receipt.
+fn text(
     rt: &(impl Threads + Sync),
     alloc: Global,
-    request: &Request,
+    report: Report,
     graph: &Graph,
-    planned: &Planned,
-    gate: &G,
+    made: GraphHierarchy,
 ) -> Result<(Pieces, Receipt), OutOfMemory>
-    requires request { CanReport request.now }
-    requires planned { IsPlanOver graph.now planned.now }
-    ensures text { IfOk result (λ made. made.0 ≡ text_of request.now.report graph.now) }
-    ensures receipt { IfOk result (λ made. made.1 ≡ receipt_over planned.now.plan request.now.workers) }
+    requires order { made.order ≡ order_of graph.now }
+    requires tree { IsTreeOf graph.now made.tree }
+    ensures text { IfOk result (λ told. told.0 ≡ text_of report graph.now) }
+    ensures receipt { IfOk result (λ told. told.1 ≡ made.receipt) }
     ensures hierarchy { IfOk result (λ _. IsHierarchy graph.now) }
 {
-    let (tree, receipt) = tree_of(rt, alloc, graph, planned, request.workers, gate)?;
-    let text = text_of(rt, alloc, request.report, graph, &planned.order, &tree)?;
+    let GraphHierarchy {
+        order,
+        tree,
+        receipt,
+    } = made;
+    let text = text_of(rt, alloc, report, graph, &order, &tree)?;
     Ok((text, receipt))
 }

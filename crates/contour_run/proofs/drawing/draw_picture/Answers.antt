@@ -1,4 +1,4 @@
-use Rattle.std.proofs.Common.{subst, ◌∙◌}
+use Rattle.std.proofs.Common.{subst}
 use Rattle.hg_base.specs.Graph.{WeightedGraph}
 use Rattle.higra_cli.proofs.OrderedLemmas.{is_hierarchy}
 use Rattle.higra_cli.specs.Running.{IsHierarchy}
@@ -7,8 +7,7 @@ use Rattle.contour_run.proofs.drawing.draw_picture.Goals as goal
 
 pub returns-clause-receipt : goal.returns-clause-receipt
 returns-clause-receipt g c =
-    c.in_ok-tree.ensures.receipt
-    ∙ receipt_drawn c.args.request.now c.args.picture.now c.in_ok-graph.graph c.in_ok-planned.planned c.in_ok-planned.ensures.plan c.in_ok-graph.ensures
+    receipt_drawn c.args.request.now c.args.picture.now c.in_ok-graph.graph _ c.in_ok-order.ensures.own.receipt c.in_ok-graph.ensures
 
 pub returns-clause-hierarchy : goal.returns-clause-hierarchy
-returns-clause-hierarchy g c = subst (λ (h : WeightedGraph). IsHierarchy h) c.in_ok-graph.ensures (is_hierarchy _ c.in_ok-tree.tree c.in_ok-tree.ensures.tree)
+returns-clause-hierarchy g c = subst (λ (h : WeightedGraph). IsHierarchy h) c.in_ok-graph.ensures (is_hierarchy _ _ c.in_ok-order.ensures.own.tree)

@@ -1,4 +1,4 @@
-use Rattle.std.proofs.Common.{◌≡◌, ℕ, Err, subst, sym, ◌∙◌}
+use Rattle.std.proofs.Common.{◌≡◌, ℕ, Err, subst, sym}
 use Rattle.std.specs.Prelude.{List, Result, Ok}
 use Rattle.std.proofs.lemmas.Result.{err_from_is_err_and}
 use Rattle.hg_base.specs.Graph.{WeightedGraph}
@@ -13,8 +13,8 @@ use Rattle.higra_cli.specs.declared.request.Form.TheVariants.{Pgm}
 use Rattle.higra_cli.specs.declared.writing.RunFault.{RunFault}
 use Rattle.higra_cli.proofs.drawing.drawing.Goals as goal
 
-pub plan_pixels-requires-clause-pixels : goal.plan_pixels-requires-clause-pixels
-plan_pixels-requires-clause-pixels g c κs within = pixels_in c.args.picture.now c.in_ok-graph.graph c.in_ok-graph.ensures
+pub pixels_hierarchy-requires-clause-pixels : goal.pixels_hierarchy-requires-clause-pixels
+pixels_hierarchy-requires-clause-pixels g c κs within = pixels_in c.args.picture.now c.in_ok-graph.graph c.in_ok-graph.ensures
 
 pub returns-in_err-pieces-clause-picture : goal.returns-in_err-pieces-clause-picture
 returns-in_err-pieces-clause-picture g c =
@@ -22,19 +22,18 @@ returns-in_err-pieces-clause-picture g c =
     let same : c.in_err-pieces.field-0.0 ≡ p.0 = cc in
     subst (λ (r : Result (List ℕ × ReceiptState) RunFault). IsReportIn Pgm c.args.request.now.tile c.args.request.now.report (Picture c.args.picture.now) r) (sym p.1)
     (subst (λ (f : RunFault). IsReportIn Pgm c.args.request.now.tile c.args.request.now.report (Picture c.args.picture.now) (Err f)) same
-    (drawn_fault c.args.picture.now c.args.request.now.tile c.args.request.now.report c.in_ok-graph.graph c.in_err-pieces.field-0.0 c.in_ok-planned.ensures.plan.few c.in_ok-graph.ensures c.in_err-pieces.ensures))
+    (drawn_fault c.args.picture.now c.args.request.now.tile c.args.request.now.report c.in_ok-graph.graph c.in_err-pieces.field-0.0 c.in_ok-order.ensures.few c.in_ok-graph.ensures c.in_err-pieces.ensures))
 
 pub returns-clause-picture : goal.returns-clause-picture
 returns-clause-picture g c =
-    drawn_report c.args.picture.now c.args.request.now.tile c.args.request.now.report c.in_ok-graph.graph (Ok c.in_ok-pieces.pieces) c.in_ok-planned.ensures.plan.few c.in_ok-graph.ensures c.in_ok-pieces.ensures
+    drawn_report c.args.picture.now c.args.request.now.tile c.args.request.now.report c.in_ok-graph.graph (Ok c.in_ok-pieces.pieces) c.in_ok-order.ensures.few c.in_ok-graph.ensures c.in_ok-pieces.ensures
 
 pub returns-clause-receipt : goal.returns-clause-receipt
 returns-clause-receipt g c =
-    c.in_ok-tree.ensures.receipt
-    ∙ receipt_squares c.args.request.now c.args.picture.now c.in_ok-graph.graph c.in_ok-planned.planned c.in_ok-planned.ensures.plan (edges_in c.args.picture.now c.in_ok-graph.graph c.in_ok-graph.ensures)
+    receipt_squares c.args.request.now c.args.picture.now c.in_ok-graph.graph _ c.in_ok-order.ensures.own.receipt (edges_in c.args.picture.now c.in_ok-graph.graph c.in_ok-graph.ensures)
 
 pub returns-clause-hierarchy : goal.returns-clause-hierarchy
-returns-clause-hierarchy g c = subst (λ (h : WeightedGraph). IsHierarchy h) c.in_ok-graph.ensures (is_hierarchy _ c.in_ok-tree.tree c.in_ok-tree.ensures.tree)
+returns-clause-hierarchy g c = subst (λ (h : WeightedGraph). IsHierarchy h) c.in_ok-graph.ensures (is_hierarchy _ _ c.in_ok-order.ensures.own.tree)
 
 pub returns-clause-components : goal.returns-clause-components
 returns-clause-components g c = drawn_alone c.args.request.now.report (Picture c.args.picture.now) c.requires.drawn

@@ -3,13 +3,14 @@
 use Rattle.std.proofs.Common.{◌≡◌, ℕ, ◌≤◌, true, ◌⊎◌, inl, inr, ap, arith, [], ◌∷◌}
 use Rattle.std.specs.Prelude.{◌&&◌, nat_le}
 use Rattle.std.proofs.lemmas.Bool.{le-leb, leb-true, and_parts, and_from}
-use Rattle.hg_base.specs.Edges.{ListedEdge, EdgeList, IsIn, Joined, joined}
-use Rattle.hg_base.specs.Saliency.{at_most}
-use Rattle.hg_base.proofs.Members.{IsIn-filter, IsIn-kept}
-use Rattle.hg_base.proofs.Walks.{joined-walk, walk-among, Joined-joined}
+use Rattle.edge_laws.specs.Edges.{ListedEdge, EdgeList, Joined, joined}
+use Rattle.hg_base.specs.Lists.{IsIn}
+use Rattle.edge_laws.specs.Saliency.{at_most}
+use Rattle.hg_base.proofs.Lists.{IsIn-filter, IsIn-kept}
+use Rattle.edge_laws.proofs.Walks.{joined-walk, walk-among, Joined-joined}
 use Rattle.component_tree.specs.declared.side.Side.TheVariants.{Min}
 use Rattle.component_tree.specs.Components.{inside}
-pub use Rattle.component_tree.specs.Passes.{IsGreaterEnd, AreGreaterEnds}
+pub use Rattle.component_tree.specs.NodeComponents.{IsGreaterEnd, AreGreaterEnds}
 
 -- the edges inside a level are those of weight at most it
 light-inside : (f : ℕ → ℕ) (s : EdgeList) (k : ℕ) → AreGreaterEnds f s → (e : ListedEdge) → IsIn e (at_most s k) → IsIn e (inside Min f s k)

@@ -2,8 +2,9 @@
 use Rattle.std.specs.Prelude.{ℕ, suc, ◌+◌, ◌-◌, ◌==◌, Bool, ◌&&◌, List, ◌++◌, length, map, filter, find, fold, max, nat_le, unwrap_or, get_or, slice_index}
 use Rattle.std.specs.List.{range_with_len, flat_map, list_any, list_all}
 use Rattle.hg_base.specs.Graph.{WeightedGraph}
-use Rattle.hg_base.specs.Edges.{EdgeList, joined, component, is_least}
-use Rattle.hg_base.specs.Rank.{ranked}
+use Rattle.edge_laws.specs.Edges.{EdgeList, joined, component}
+use Rattle.hg_base.specs.Counting.{is_least}
+use Rattle.edge_laws.specs.Rank.{ranked}
 use Rattle.component_tree.specs.declared.side.Side.{Side}
 use Rattle.component_tree.specs.declared.side.Side.TheVariants.{Min, Max}
 use Rattle.component_tree.specs.Components.{ComponentLists, inside}
@@ -18,12 +19,12 @@ abbrev pub vertices_of : (ℕ → ℕ) → ℕ → EdgeList → Head → List �
 vertices_of f n s h = component n (inside Min f s h.level) h.vertex
 
 -- x is the least vertex of a component at level t in which some vertex has the value t
-abbrev pub is_head : (ℕ → ℕ) → ℕ → EdgeList → ℕ → ℕ → Bool
-is_head f n s t x = nat_le (f x) t && (is_least (joined (inside Min f s t)) x && list_any (λ y. f y == t) (component n (inside Min f s t) x))
+abbrev pub is_component_head : (ℕ → ℕ) → ℕ → EdgeList → ℕ → ℕ → Bool
+is_component_head f n s t x = nat_le (f x) t && (is_least (joined (inside Min f s t)) x && list_any (λ y. f y == t) (component n (inside Min f s t) x))
 
 -- the nodes of level t, by least vertex
 abbrev pub heads_at : (ℕ → ℕ) → ℕ → EdgeList → ℕ → List Head
-heads_at f n s t = map (λ x. record { level = t; vertex = x }) (filter (is_head f n s t) (range_with_len 0 n))
+heads_at f n s t = map (λ x. record { level = t; vertex = x }) (filter (is_component_head f n s t) (range_with_len 0 n))
 
 -- the greatest value
 abbrev pub greatest_value : (ℕ → ℕ) → ℕ → ℕ

@@ -7,13 +7,13 @@ use Rattle.std.proofs.lemmas.List.FromFn.{length-map-range_with_len, get_or-map-
 use Rattle.std.proofs.lemmas.List.Sums.{sum_by-le, sum_by_more}
 use Rattle.std.proofs.lemmas.Nat.{mul-le}
 use Rattle.std.proofs.Math.Nat.{mul-le-mul_right}
-use Rattle.hg_base.specs.Tree.{ParentTree, altitude}
+use Rattle.tree_laws.specs.Tree.{ParentTree, altitude}
 use Rattle.hg_base.proofs.Passing.{length-passing, count_below-most}
-use Rattle.partition_tree.specs.Forest.{nodes, IsForest}
+use Rattle.partition_tree.specs.TreeLists.{nodes, IsWellFormed}
 use Rattle.energy_cut.specs.Cuts.{IsCut, cut_energy}
 use Rattle.energy_cut.specs.Energies.{node_energy, energies_of}
-use Rattle.energy_cut.proofs.Lists.{has, rising-passing}
-use Rattle.energy_cut.proofs.Best.{value, cut-within}
+use Rattle.energy_cut.proofs.ListMembers.{has, rising-passing}
+use Rattle.energy_cut.proofs.HighestKeepers.{value, cut-within}
 
 -- a bound of all values bounds what stands past the end too
 pub value-most : (xs : List ℕ) (b i : ℕ) → All (λ x. x ≤ b) xs → value xs i ≤ b
@@ -59,7 +59,7 @@ few-fit energies c few small =
     omega arith
 
 -- those of a cut
-pub cut-fits : (t : ParentTree) (energies c : List ℕ) → IsForest t → All (λ e. e < 2 ^ 65) energies → IsCut t c → cut_energy energies c < 2 ^ 86
+pub cut-fits : (t : ParentTree) (energies c : List ℕ) → IsWellFormed t → All (λ e. e < 2 ^ 65) energies → IsCut t c → cut_energy energies c < 2 ^ 86
 cut-fits t energies c f small k =
     let same = ap (λ (xs : List ℕ). length xs) (rising-passing (length t.parents) c k.rising (cut-within t f c k)) in
     let counted = length-passing (has c) (length t.parents) in

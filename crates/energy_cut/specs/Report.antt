@@ -5,8 +5,8 @@ use Rattle.hg_base.specs.Text.{headed_line}
 use Rattle.energy_cut.specs.Regions.{RegionCut}
 
 -- a node's line: its number and its energy
-abbrev pub node_line : List ℕ → ℕ → List ℕ
-node_line energies i = headed_line (codes "node") (i ∷ slice_index energies i ∷ [])
+abbrev pub energy_line : List ℕ → ℕ → List ℕ
+energy_line energies i = headed_line (codes "node") (i ∷ slice_index energies i ∷ [])
 
 -- a vertex's line: its number and its label
 abbrev pub vertex_line : List ℕ → ℕ → List ℕ
@@ -16,5 +16,5 @@ vertex_line labels x = headed_line (codes "v") (x ∷ slice_index labels x ∷ [
 abbrev pub energy_report : RegionCut → List ℕ → List ℕ
 energy_report c energies =
     headed_line (codes "energy") (length c.labels.labels ∷ c.labels.count ∷ c.sum ∷ [])
-    ++ flat_map (node_line energies) c.nodes
+    ++ flat_map (energy_line energies) c.nodes
     ++ flat_map (vertex_line c.labels.labels) (range_with_len 0 (length c.labels.labels))

@@ -1,7 +1,7 @@
 ghost use Rattle.std.specs.Prelude.{◌≡◌, ◌<◌, [], ◌∷◌, ◌++◌, All, codes, decimal, length, IfOk, OnOk};
 ghost use Rattle.std.specs.List.{flat_map};
 ghost use Rattle.hg_base.specs.Text.{line, headed_line};
-ghost use Rattle.energy_cut.specs.Report.{node_line, vertex_line, energy_report};
+ghost use Rattle.energy_cut.specs.Report.{energy_line, vertex_line, energy_report};
 
 use crate::cuts::EnergyCut;
 use hg_base::{Labels, OutOfMemory};
@@ -75,7 +75,7 @@ fn in_pieces(
 // The line of the report, and one for each node of the cut.
 fn nodes_text(alloc: Global, cut: &EnergyCut, energies: &[u128]) -> Result<Vec<u8>, AllocError>
     requires { All (λ i. i < length energies.now) cut.now.nodes }
-    ensures { IfOk result (λ text. text.items ≡ headed_line (codes "energy") (length cut.now.labels.labels ∷ cut.now.labels.count ∷ cut.now.sum ∷ []) ++ flat_map (node_line energies.now) cut.now.nodes) }
+    ensures { IfOk result (λ text. text.items ≡ headed_line (codes "energy") (length cut.now.labels.labels ∷ cut.now.labels.count ∷ cut.now.sum ∷ []) ++ flat_map (energy_line energies.now) cut.now.nodes) }
 {
     let labels = cut.labels();
     let sizes = [
@@ -120,7 +120,7 @@ impl Lines for VertexLines<'_> {
 // Appends a line for each node with its energy.
 fn push_nodes(text: &mut Vec<u8>, nodes: &[u32], energies: &[u128]) -> Result<(), AllocError>
     requires { All (λ i. i < length energies.now) nodes.now }
-    ensures { OnOk result (text.new.items ≡ text.old.items ++ flat_map (node_line energies.now) nodes.now) }
+    ensures { OnOk result (text.new.items ≡ text.old.items ++ flat_map (energy_line energies.now) nodes.now) }
 {
     for i in nodes {
         push_wide_line(text, "node", &[u128::from(*i), energies[*i as usize]])?;

@@ -3,17 +3,17 @@ use Rattle.std.proofs.Common.{◌≡◌, ℕ, zero, suc, ◌+◌, ◌<◌, ◌�
 use Rattle.std.specs.Prelude.{◌==◌, ◌||◌, not, nat_lt, Option, Some, None, find, unwrap_or}
 use Rattle.std.specs.List.{range_with_len, list_all}
 use Rattle.std.proofs.lemmas.Bool.{cases_Bool, both_ways, and_parts, and_from, or_cases, or_left, or_right, not-true, not_from_false, false_from_ne_true, ne_eqb, eq-eqb, cases_eq, lt-ltb, ltb-true}
-use Rattle.hg_base.specs.Edges.{IsIn}
+use Rattle.hg_base.specs.Lists.{IsIn}
 use Rattle.hg_base.specs.Labels.{IsLabel}
-use Rattle.hg_base.specs.Tree.{ParentTree, parent, IsAbove}
-use Rattle.hg_base.specs.Levels.{IsClimbing, is_above}
-use Rattle.hg_base.proofs.Climbs.{above-parent}
+use Rattle.tree_laws.specs.Tree.{ParentTree, parent, IsAbove}
+use Rattle.tree_laws.specs.Levels.{IsClimbing, is_above}
+use Rattle.tree_laws.proofs.Climbs.{above-parent}
 use Rattle.hg_base.proofs.Leasts.{first_of}
-use Rattle.hg_base.proofs.Tops.{is_above-from, is_above-to}
-use Rattle.partition_tree.specs.Forest.{IsForest}
+use Rattle.tree_laws.proofs.Tops.{is_above-from, is_above-to}
+use Rattle.partition_tree.specs.TreeLists.{IsWellFormed}
 use Rattle.partition_tree.specs.Children.{is_child, child_count, IsChildAt}
 use Rattle.partition_tree.proofs.ChildLemmas.{count-nth, child-parent, child-other}
-use Rattle.partition_tree.proofs.ForestClimbs.{forest-climbs, forest-leaves}
+use Rattle.partition_tree.proofs.WellFormed.{well_formed-climbs, well_formed-leaves}
 use Rattle.watershed_cut.specs.MinimumLabels.{LabelledMinima}
 use Rattle.watershed_cut.proofs.AnyIn.{any-from, any-to, range-to, range-from}
 use Rattle.extinction.specs.Holding.{HoldsMinimum, holds_minimum, holds, least_held, child, child_holds}
@@ -107,7 +107,7 @@ least-some t m i h =
     subst (IsLabel m.count) (sym at) (in-label m.count f.at (found-in (holds_minimum t m i) (range_with_len 1 m.count) f.at f.found))
 
 -- the child before which k others come
-pub child-there : (t : ParentTree) → IsForest t → (i k : ℕ) → k < child_count t i → IsChildAt t i k (child t i k)
+pub child-there : (t : ParentTree) → IsWellFormed t → (i k : ℕ) → k < child_count t i → IsChildAt t i k (child t i k)
 child-there t f i k h =
     let found = count-nth (is_child t i) (length t.parents) k h in
     let j = found.0 in
@@ -125,7 +125,7 @@ child_holds-to t m i k h = let p = and_parts (nat_lt k (child_count t i)) (holds
 pub child_holds-from : (t : ParentTree) (m : LabelledMinima) (i k : ℕ) → k < child_count t i → holds t m (child t i k) ≡ true → child_holds t m i k ≡ true
 child_holds-from t m i k h c = and_from _ _ (lt-ltb k (child_count t i) h) c
 
-pub child_holds-up : (t : ParentTree) (m : LabelledMinima) → IsForest t → (i k : ℕ) → child_holds t m i k ≡ true → holds t m i ≡ true
+pub child_holds-up : (t : ParentTree) (m : LabelledMinima) → IsWellFormed t → (i k : ℕ) → child_holds t m i k ≡ true → holds t m i ≡ true
 child_holds-up t m f i k h =
     let p = child_holds-to t m i k h in
-    holds-up t m (forest-climbs t f) (forest-leaves t f) (child t i k) i (child-there t f i k p.0).parent_is p.1
+    holds-up t m (well_formed-climbs t f) (well_formed-leaves t f) (child t i k) i (child-there t f i k p.0).parent_is p.1

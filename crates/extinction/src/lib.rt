@@ -2,7 +2,7 @@
 #![tactic(auto)]
 
 mod deaths;
-mod hierarchy;
+mod by_persistence;
 mod kind;
 mod laws;
 mod lowest;
@@ -12,10 +12,10 @@ mod report;
 mod survive;
 
 pub use deaths::extinctions;
-pub use hierarchy::hierarchical;
+pub use by_persistence::hierarchical;
 pub use kind::Kind;
 pub use laws::{
-    children_are_two, hierarchy_is_a_forest, holding_by_paths, level_zero_is_the_watershed,
+    children_are_two, hierarchical_is_well_formed, holding_by_paths, level_zero_is_the_watershed,
     survivors_live_on,
 };
 pub use persist::persistence;

@@ -2,14 +2,14 @@
 use Rattle.std.proofs.Common.{◌≡◌, ℕ, ◌*◌, length, Ok, Err, refl, sym, ap, ◌∙◌, subst, arith}
 use Rattle.std.proofs.lemmas.List.FromFn.{length-map-range_with_len}
 use Rattle.edge_order.specs.Order.{EdgeOrder, order_of}
-use Rattle.hg_base.specs.Edges.{EdgeList}
+use Rattle.edge_laws.specs.Edges.{EdgeList}
 use Rattle.hg_base.specs.Graph.{WeightedGraph, IsGraph}
-use Rattle.hg_base.specs.Levels.{AltitudesRise}
-use Rattle.hg_base.specs.Rank.{listed, number_at, ranked}
-use Rattle.hg_base.specs.Tree.{ParentTree, graph_tree}
-use Rattle.hg_base.proofs.Ranked.{AreApart-ranked, AreByWeight-ranked}
+use Rattle.tree_laws.specs.Levels.{AltitudesRise}
+use Rattle.edge_laws.specs.Rank.{listed, number_at, ranked}
+use Rattle.tree_laws.specs.Tree.{ParentTree, graph_tree}
+use Rattle.edge_laws.proofs.Ranked.{AreApart-ranked, AreByWeight-ranked}
 use Rattle.merge_board.specs.Seats.{ReceiptState}
-use Rattle.partition_tree.specs.Forest.{IsForest}
+use Rattle.partition_tree.specs.TreeLists.{IsWellFormed}
 use Rattle.partition_tree.proofs.TreeLemmas.{tree-rises}
 use Rattle.tile_plan.specs.Plan.{IsAnswer, TilePlan, tile_count}
 use Rattle.tile_plan.specs.declared.fault.PlanFault.{PlanFault}
@@ -22,8 +22,8 @@ use Rattle.graph_hierarchy.specs.declared.tiling.Tiling.{Tiling}
 use Rattle.graph_hierarchy.specs.declared.tiling.Tiling.TheVariants.{Blocks, Squares}
 
 -- the tree of a graph
-pub tree_is : (g : WeightedGraph) (t : ParentTree) → IsGraph g → t ≡ graph_tree g → IsForest t → IsTreeOf g t
-tree_is g t graph same forest = record { same = same; forest = forest; rises = subst AltitudesRise (sym same) (tree-rises g.n (ranked g) (AreApart-ranked g) (AreByWeight-ranked g)); graph = graph }
+pub tree_is : (g : WeightedGraph) (t : ParentTree) → IsGraph g → t ≡ graph_tree g → IsWellFormed t → IsTreeOf g t
+tree_is g t graph same forest = record { same = same; well_formed = forest; rises = subst AltitudesRise (sym same) (tree-rises g.n (ranked g) (AreApart-ranked g) (AreByWeight-ranked g)); graph = graph }
 
 -- the plan of a graph is over its vertices and its ranked edges
 order-own : (g : WeightedGraph) (tiling : Tiling) → AreTiles tiling g.n → order_of g ≡ order_in (plan_in g tiling)

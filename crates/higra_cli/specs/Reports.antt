@@ -11,16 +11,16 @@ use Rattle.component_tree.specs.declared.side.Side.TheVariants.{Max, Min}
 use Rattle.energy_cut.specs.Energies.{energies_of}
 use Rattle.energy_cut.specs.Regions.{RegionCut, energy_cut_of}
 use Rattle.energy_cut.specs.Report.{energy_report}
-use Rattle.extinction.specs.Hierarchy.{hierarchy_of}
+use Rattle.extinction.specs.HierarchicalWatershed.{hierarchical_of}
 use Rattle.extinction.specs.Report.{hierarchical_report}
 use Rattle.extinction.specs.Survivors.{extinctions_of}
 use Rattle.extinction.specs.declared.kind.Kind.{Kind}
 use Rattle.hg_base.specs.Graph.{WeightedGraph}
 use Rattle.hg_base.specs.Labels.{Labelling, labelling}
-use Rattle.hg_base.specs.Levels.{shares}
-use Rattle.hg_base.specs.Tree.{ParentTree, graph_tree}
-use Rattle.hg_base.specs.Zones.{zones_of}
-use Rattle.hg_base.specs.Saliencies.{saliencies}
+use Rattle.tree_laws.specs.Levels.{shares}
+use Rattle.tree_laws.specs.Tree.{ParentTree, graph_tree}
+use Rattle.tree_laws.specs.Zones.{zones_of}
+use Rattle.edge_laws.specs.Saliencies.{saliencies}
 use Rattle.hg_base.specs.declared.fault.InputFault.{InputFault}
 use Rattle.hg_base.specs.declared.fault.FaultKind.TheVariants.{NotAPicture, TooManyLabels, TooManyTiles}
 use Rattle.label_writer.specs.Report.{labels_picture, labels_report}
@@ -49,7 +49,7 @@ use Rattle.higra_cli.specs.declared.writing.RunFault.TheVariants as faults
 -- the tree that a cut is of: the graph's own, or its hierarchical watershed by a kind
 abbrev pub cut_tree : Option Kind → WeightedGraph → ParentTree
 cut_tree None g = graph_tree g
-cut_tree (Some kind) g = hierarchy_of g kind
+cut_tree (Some kind) g = hierarchical_of g kind
 
 -- the regions of a tree at a level, labelled by least vertex
 abbrev pub regions : ParentTree → ℕ → Labelling
@@ -101,7 +101,7 @@ text_of reports.Saliency g = saliency_report (saliencies g)
 text_of reports.Attributes g = attributes_report (attributes_of g)
 text_of reports.Minima g = minima_report (minima_of g)
 text_of reports.Watershed g = watershed_report (watershed_of g) (minima_of g).count (cost g (forest g))
-text_of (reports.Hierarchical kind) g = hierarchical_report (hierarchy_of g kind) (extinctions_of g kind)
+text_of (reports.Hierarchical kind) g = hierarchical_report (hierarchical_of g kind) (extinctions_of g kind)
 text_of (reports.Cut kind level) g = labels_report (regions (cut_tree kind g) level)
 text_of reports.Summary g = summary_report (summary_of g)
 text_of reports.Mintree g = []

@@ -5,15 +5,15 @@ use Rattle.component_tree.specs.Components.{IsComponentTree}
 use Rattle.component_tree.specs.MinTree.{value_at}
 use Rattle.component_tree.specs.declared.side.Side.{Side}
 use Rattle.energy_cut.specs.Cuts.{IsLeastCut}
-use Rattle.extinction.specs.Hierarchy.{hierarchy_of}
+use Rattle.extinction.specs.HierarchicalWatershed.{hierarchical_of}
 use Rattle.extinction.specs.declared.kind.Kind.{Kind}
 use Rattle.hg_base.specs.Graph.{WeightedGraph}
-use Rattle.hg_base.specs.Levels.{Shares}
+use Rattle.tree_laws.specs.Levels.{Shares}
 use Rattle.hg_base.specs.Outside.{Rose, AppendsPrefix}
-use Rattle.hg_base.specs.Rank.{ranked}
-use Rattle.hg_base.specs.Tree.{IsFrontTree, ParentTree, graph_tree}
-use Rattle.hg_base.specs.Saliency.{IsSaliency}
-use Rattle.hg_base.specs.Saliencies.{saliency}
+use Rattle.edge_laws.specs.Rank.{ranked}
+use Rattle.tree_laws.specs.Tree.{IsFrontTree, ParentTree, graph_tree}
+use Rattle.edge_laws.specs.Saliency.{IsSaliency}
+use Rattle.edge_laws.specs.Saliencies.{saliency}
 use Rattle.hg_base.specs.declared.fault.InputFault.{InputFault}
 use Rattle.merge_board.specs.Seats.{ReceiptState}
 use Rattle.pgm_reader.specs.Generator.{made}
@@ -122,7 +122,7 @@ pub record IsHierarchy (g : WeightedGraph) : Type 0 where
   pub altitudes : HasAltitudes (graph_tree g) (ranked g)
   pub saliencies : (e : ℕ) → e < length g.edges → IsSaliency g e (saliency g e)
   pub watershed : IsWatershed g (watershed_of g)
-  pub hierarchies : (kind : Kind) → BeginsAtWatershed g (hierarchy_of g kind)
+  pub hierarchies : (kind : Kind) → BeginsAtWatershed g (hierarchical_of g kind)
   pub cuts : (penalty : ℕ) → IsLeastCut (graph_tree g) (graph_energies g penalty) (graph_energy_cut g penalty).nodes
 
 -- the nodes of a picture's component tree are the components of its pixels up to each sample, or from each on, each once

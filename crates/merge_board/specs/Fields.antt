@@ -5,7 +5,7 @@ use Rattle.border_climb.specs.Stands.{PartState}
 use Rattle.merge_board.specs.Board.{IsBoard}
 use Rattle.tile_plan.specs.Plan.{IsPlan, tile_count, part_count}
 use Rattle.merge_board.specs.Seats.{first_view, SeatState, BoardState}
-use Rattle.merge_board.specs.Plays.{AreTurns}
+use Rattle.merge_board.specs.Steps.{AreTurns}
 use Rattle.merge_board.specs.declared.view.View.{View}
 use Rattle.merge_board.specs.declared.view.Key.{Key}
 use Rattle.merge_board.specs.declared.seat.Seat.TheInside as seat

@@ -2,15 +2,16 @@
 use Rattle.std.proofs.Common.{◌≡◌, ◌≢◌, ℕ, ◌+◌, ◌<◌, ◌≤◌, inl, inr, refl, sym, ◌∙◌, ap, arith, length, map, length-append}
 use Rattle.std.specs.Prelude.{replicate}
 use Rattle.std.proofs.lemmas.List.{length-map, length-replicate}
-use Rattle.hg_base.specs.Edges.{ListedEdge, EdgeList, AreApart, AreWithin, joined, joins, components, is_least, count_below}
-use Rattle.hg_base.specs.Tree.{parent, altitude, place, tree_of}
-use Rattle.hg_base.specs.Saliency.{AreByWeight}
-use Rattle.hg_base.proofs.Sets.{IsIn-joins_kept}
-use Rattle.hg_base.proofs.Components.{joins-count}
-use Rattle.hg_base.proofs.Nodes.{length-parents}
-use Rattle.hg_base.proofs.Meeting.{altitude-leaf, altitude-inner}
-use Rattle.hg_base.proofs.TreeNodes.{made-within, HasParent, node-cases, leaf-parent, made-parent}
-use Rattle.partition_tree.specs.Forest.{nodes, IsForest}
+use Rattle.edge_laws.specs.Edges.{ListedEdge, EdgeList, AreApart, AreWithin, joined, joins, components}
+use Rattle.hg_base.specs.Counting.{is_least, count_below}
+use Rattle.tree_laws.specs.Tree.{parent, altitude, place, tree_of}
+use Rattle.edge_laws.specs.Saliency.{AreByWeight}
+use Rattle.edge_laws.proofs.Sets.{IsIn-joins_kept}
+use Rattle.edge_laws.proofs.Components.{joins-count}
+use Rattle.tree_laws.proofs.Nodes.{length-parents}
+use Rattle.tree_laws.proofs.Meeting.{altitude-leaf, altitude-inner}
+use Rattle.tree_laws.proofs.TreeNodes.{made-within, HasParent, node-cases, leaf-parent, made-parent}
+use Rattle.partition_tree.specs.TreeLists.{nodes, IsWellFormed}
 use Rattle.partition_tree.proofs.ChildLemmas.{count-less}
 
 -- where the parent of a node is
@@ -45,8 +46,8 @@ joins-few n s some h within =
     omega (arith, sum, first)
 
 -- the tree of an edge list is a forest
-pub tree-forest : (n : ℕ) (s : EdgeList) → 1 ≤ n → n ≤ 1048576 → AreApart s → AreWithin n s → IsForest (tree_of n s)
-tree-forest n s some few h within =
+pub tree-well_formed : (n : ℕ) (s : EdgeList) → 1 ≤ n → n ≤ 1048576 → AreApart s → AreWithin n s → IsWellFormed (tree_of n s)
+tree-well_formed n s some few h within =
     let len : nodes (tree_of n s) ≡ n + length (joins s) = length-parents n s in
     let less : length (joins s) < n = joins-few n s some h within in
     record {

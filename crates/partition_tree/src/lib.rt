@@ -4,21 +4,21 @@
 mod ancestors;
 mod child_lists;
 mod children;
-mod climbs;
+mod jump_pointers;
 mod drawn;
 mod edges;
 mod laws;
 mod list;
-mod numbering;
+mod cell_nodes;
 mod parents;
-mod planned;
+mod plan;
 mod report;
 mod tree;
-mod turns;
+mod block_keys;
 
 pub use ancestors::Ancestors;
 pub use children::Children;
-pub use laws::{tree_is_a_forest, tree_under_other_names};
+pub use laws::{tree_is_well_formed, tree_under_other_names};
 pub use list::Ranked;
 pub use report::{tree_pieces, write_tree};
 pub use tree::Tree;

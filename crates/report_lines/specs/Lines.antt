@@ -7,12 +7,12 @@ abbrev pub lines_from : (ℕ → List ℕ) → ℕ → ℕ → List ℕ
 lines_from line first count = flat_map line (range_with_len first count)
 
 -- where piece k of sixteen begins
-abbrev pub cut : ℕ → ℕ → ℕ
-cut count k = min count (k * (count / 16 + 1))
+abbrev pub piece_start : ℕ → ℕ → ℕ
+piece_start count k = min count (k * (count / 16 + 1))
 
 -- the lines of piece k of sixteen
 abbrev pub lines_of_piece : (ℕ → List ℕ) → ℕ → ℕ → List ℕ
-lines_of_piece line count k = lines_from line (cut count k) (cut count (k + 1) - cut count k)
+lines_of_piece line count k = lines_from line (piece_start count k) (piece_start count (k + 1) - piece_start count k)
 
 -- numbers with a space before each, and a line feed at the end
 abbrev pub spaced : List ℕ → List ℕ

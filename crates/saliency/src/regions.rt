@@ -1,11 +1,11 @@
 ghost use Rattle.std.specs.Prelude.{◌≡◌, ℕ, ◌<◌, ◌≤◌, length, IfOk};
 ghost use Rattle.std.specs.List.{range_with_len};
-ghost use Rattle.hg_base.specs.Edges.{EdgeList, AreApart, AreWithin, joined};
+ghost use Rattle.edge_laws.specs.Edges.{EdgeList, AreApart, AreWithin, joined};
 ghost use Rattle.hg_base.specs.Labels.{labelling};
-ghost use Rattle.hg_base.specs.Tree.{tree_of};
-ghost use Rattle.hg_base.specs.Saliency.{AreByWeight, at_most};
-ghost use Rattle.hg_base.specs.Levels.{AltitudesRise, shares};
-ghost use Rattle.partition_tree.specs.Forest.{nodes, IsForest};
+ghost use Rattle.tree_laws.specs.Tree.{tree_of};
+ghost use Rattle.edge_laws.specs.Saliency.{AreByWeight, at_most};
+ghost use Rattle.tree_laws.specs.Levels.{AltitudesRise, shares};
+ghost use Rattle.partition_tree.specs.TreeLists.{nodes, IsWellFormed};
 ghost use Rattle.saliency.specs.Tops.{AreTops, AreFirstKeys};
 
 use hg_base::{Labels, OutOfMemory, number_keys};
@@ -40,7 +40,7 @@ fn regions(alloc: Global, tree: &Tree, level: u64) -> Result<Labels, AllocError>
 // For each node up to the level the last such node on its path.
 fn tops(alloc: Global, tree: &Tree, level: u64) -> Result<Vec<u32>, AllocError>
     requires { AltitudesRise tree.now }
-    ensures forest { IfOk result (λ tops. IsForest tree.now) }
+    ensures well_formed { IfOk result (λ tops. IsWellFormed tree.now) }
     ensures tops { IfOk result (λ tops. AreTops tree.now level tops.items) }
 {
     let mut tops = own_numbers(alloc, tree.nodes())?;

@@ -1,7 +1,7 @@
 ghost use Rattle.std.specs.Prelude.{◌≡◌, ◌↔◌, ◌<◌, length, IfOk, IsTrue};
 ghost use Rattle.std.specs.List.{range_with_len};
 ghost use Rattle.hg_base.specs.Graph.{first_end, second_end};
-ghost use Rattle.partition_tree.specs.Forest.{nodes};
+ghost use Rattle.partition_tree.specs.TreeLists.{nodes};
 ghost use Rattle.partition_tree.specs.Paths.{ShareRoot};
 ghost use Rattle.saliency.specs.Roots.{AreRoots};
 ghost use Rattle.saliency.specs.Values.{EndsShareRoots};

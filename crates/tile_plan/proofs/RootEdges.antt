@@ -2,14 +2,15 @@
 use Rattle.std.proofs.Common.{◌≡◌, ℕ, ◌+◌, ◌<◌, cond, Bool, true, false, refl, sym, ◌∙◌, subst, ap, arith, [], ◌∷◌, length}
 use Rattle.std.specs.Prelude.{nat_lt}
 use Rattle.std.proofs.lemmas.List.{length-map}
-use Rattle.hg_base.specs.Edges.{ListedEdge, EdgeList, IsIn, AreApart, AreWithin, IsSameSet, in_order, placed_by_rank, joins, chain, renamed, renamed_edge}
-use Rattle.hg_base.proofs.Sets.{in_order-same, joins-same, chain-same}
-use Rattle.hg_base.proofs.Renaming.{joins-renamed, chain-renamed}
+use Rattle.edge_laws.specs.Edges.{ListedEdge, EdgeList, AreApart, AreWithin, IsSameSet, in_order, placed_by_rank, joins, chain, renamed, renamed_edge}
+use Rattle.hg_base.specs.Lists.{IsIn}
+use Rattle.edge_laws.proofs.Sets.{in_order-same, joins-same, chain-same}
+use Rattle.edge_laws.proofs.Renaming.{joins-renamed, chain-renamed}
 use Rattle.tile_plan.specs.Sites.{Part, post_order}
 use Rattle.tile_plan.specs.Grids.{tree_in, root_of}
 use Rattle.tile_plan.specs.Plan.{TilePlan, IsPlan, grid_of, tile_count, part_count, root, vertices, place_of, post, lot_between_vertices, lot_edges, edges_at}
 use Rattle.tile_plan.proofs.Parts.{has-post}
-use Rattle.tile_plan.proofs.Mothers.{plan-has, root-part}
+use Rattle.tile_plan.proofs.Parents.{plan-has, root-part}
 use Rattle.tile_plan.proofs.Ranges.{places-once}
 use Rattle.tile_plan.proofs.Reading.{IsIn-renamed, IsIn-renamed_back, some-tile}
 use Rattle.tile_plan.proofs.Edges.{IsIn-flat_map, AreApart-rising, lot-edge, lot-of-edge, edge-below, has_edges}

@@ -3,29 +3,29 @@ use Rattle.std.proofs.Common.{◌≡◌, ℕ, zero, suc, ◌+◌, ◌-◌, ◌<�
 use Rattle.std.specs.Prelude.{Option, Some, unwrap_or, slice_get, filter, nat_lt}
 use Rattle.std.proofs.lemmas.Bool.{both_ways, and_from, and_left, and_right, cond-true, cond-false, not_from_false, false_from_ne_true, ltb-true}
 use Rattle.hg_base.specs.Graph.{WeightedGraph, first_end, second_end}
-use Rattle.hg_base.specs.Edges.{ListedEdge, EdgeList, IsIn, AreApart, AreWithin, joined, below, joins, is_joining}
-use Rattle.hg_base.specs.Rank.{ranked}
-use Rattle.hg_base.specs.Tree.{IsAbove, tree_of, graph_tree, place}
-use Rattle.hg_base.specs.Zones.{maker}
-use Rattle.hg_base.proofs.Components.{IsIn-append}
-use Rattle.hg_base.proofs.Fronts.{joined-step_with}
-use Rattle.hg_base.proofs.FrontOnce.{leaf_or_made, leaf-alone}
-use Rattle.hg_base.proofs.FrontTree.{above-made}
-use Rattle.hg_base.proofs.Link.{link_cases}
-use Rattle.hg_base.proofs.Members.{IsIn-filter}
-use Rattle.hg_base.proofs.Nodes.{slice_get-mapped, joins-at, length-parents}
-use Rattle.hg_base.proofs.TreeNodes.{made-within}
-use Rattle.hg_base.proofs.Ranked.{ranked-at, AreApart-ranked}
-use Rattle.hg_base.proofs.Sets.{IsIn-joins_kept, joined-among}
-use Rattle.hg_base.proofs.Walks.{IsSame-joined, joined-ends, Joined-joined}
+use Rattle.edge_laws.specs.Edges.{ListedEdge, EdgeList, AreApart, AreWithin, joined, below, joins, is_joining}
+use Rattle.hg_base.specs.Lists.{IsIn}
+use Rattle.edge_laws.specs.Rank.{ranked}
+use Rattle.tree_laws.specs.Tree.{IsAbove, tree_of, graph_tree, place}
+use Rattle.tree_laws.specs.Zones.{maker}
+use Rattle.hg_base.proofs.Lists.{IsIn-append, IsIn-filter, slice_get-mapped}
+use Rattle.edge_laws.proofs.Fronts.{joined-step_with}
+use Rattle.tree_laws.proofs.FrontOnce.{leaf_or_made, leaf-alone}
+use Rattle.tree_laws.proofs.FrontTree.{above-made}
+use Rattle.edge_laws.proofs.Link.{link_cases}
+use Rattle.tree_laws.proofs.Nodes.{joins-at, length-parents}
+use Rattle.tree_laws.proofs.TreeNodes.{made-within}
+use Rattle.edge_laws.proofs.Ranked.{ranked-at, AreApart-ranked}
+use Rattle.edge_laws.proofs.Sets.{IsIn-joins_kept, joined-among}
+use Rattle.edge_laws.proofs.Walks.{IsSame-joined, joined-ends, Joined-joined}
 use Rattle.watershed_cut.specs.Minima.{IsMinimumEdge, InMinimum}
 use Rattle.watershed_cut.specs.MinimumTests.{is_minimum, minimum_edges}
 use Rattle.watershed_cut.specs.Forest.{reaches, is_forest, trees}
-use Rattle.watershed_cut.specs.TreePasses.{IsNearest, maker_first, maker_second, held_end, AreNodeLabels, AreNearest}
+use Rattle.watershed_cut.specs.NearestHolders.{IsNearestHolder, maker_first, maker_second, held_end, AreNodeLabels, AreNearestHolders}
 use Rattle.watershed_cut.specs.Watershed.{tree_label}
 use Rattle.watershed_cut.proofs.ForestWalks.{reaches-from}
 use Rattle.watershed_cut.proofs.MinimumWalks.{minimum-to}
-use Rattle.watershed_cut.proofs.NearLaws.{AreLabelled, reaches-along, holds-to, nearest-holds, nearest-before, alone-joined}
+use Rattle.watershed_cut.proofs.HolderLaws.{AreLabelled, reaches-along, holds-to, nearest-holds, nearest-before, alone-joined}
 use Rattle.watershed_cut.proofs.TreeLabels.{tree-label, tree-label_same}
 
 -- the edge that made a node, by its number
@@ -78,7 +78,7 @@ in-trees n s x y j = joined-among (filter (is_forest n s) s) (trees n s) x y (λ
 pub record IsSetting (g : WeightedGraph) (vertices near labels : List ℕ) : Type 0 where
   pub within : AreWithin g.n (ranked g)
   pub labelled : AreLabelled g.n (ranked g) vertices
-  pub nearest : AreNearest (graph_tree g) vertices near
+  pub nearest : AreNearestHolders (graph_tree g) vertices near
   pub nodes : AreNodeLabels g (graph_tree g) vertices near labels
 
 -- one end of the edge of node q reaches no minimum before it, and the other one does
@@ -97,7 +97,7 @@ one-end g vertices near labels set' e i x y hx my a b off =
     ]
 
 -- the nearest node above a vertex
-near-of : (g : WeightedGraph) (vertices near labels : List ℕ) → IsSetting g vertices near labels → (x : ℕ) → x < g.n → IsNearest (graph_tree g) vertices x (get_or near x 0)
+near-of : (g : WeightedGraph) (vertices near labels : List ℕ) → IsSetting g vertices near labels → (x : ℕ) → x < g.n → IsNearestHolder (graph_tree g) vertices x (get_or near x 0)
 near-of g vertices near labels set' x hx = set'.nearest.each x (let long : length (graph_tree g).parents ≡ g.n + length (joins (ranked g)) = length-parents g.n (ranked g) in omega arith)
 
 pub near-before : (g : WeightedGraph) (vertices near labels : List ℕ) → IsSetting g vertices near labels → (e : ListedEdge) → IsIn e (joins (ranked g)) → (x : ℕ) → x < g.n →
@@ -129,7 +129,7 @@ made-label g vertices near labels set' e i x hx at before =
     q : ℕ
     q = g.n + place (ranked g) e
 
-    nx : IsNearest (graph_tree g) vertices x (get_or near x 0)
+    nx : IsNearestHolder (graph_tree g) vertices x (get_or near x 0)
     nx = near-of g vertices near labels set' x hx
 
     off : reaches n s e.rank x ≡ false

@@ -5,22 +5,23 @@ use Rattle.std.specs.List.{range_with_len}
 use Rattle.std.specs.Option.{is_some}
 use Rattle.std.proofs.lemmas.Bool.{cases_Bool, cases_order, both_ways, and_parts, and_from, false_from_ne_true, true≢false, eqb-true, eq-eqb, cond-true, not-true, not_from_false, ne_eqb, eqb-false}
 use Rattle.hg_base.specs.Graph.{WeightedGraph, IsGraph, first_end, second_end}
-use Rattle.hg_base.specs.Edges.{ListedEdge, EdgeList, IsIn, AreApart, AreWithin, Joined, joined, count_below}
+use Rattle.edge_laws.specs.Edges.{ListedEdge, EdgeList, AreApart, AreWithin, Joined, joined}
+use Rattle.hg_base.specs.Lists.{IsIn}
+use Rattle.hg_base.specs.Counting.{count_below}
 use Rattle.hg_base.specs.Labels.{IsLabel, least_of}
-use Rattle.hg_base.specs.Rank.{ranked}
-use Rattle.hg_base.proofs.Components.{IsIn-append}
+use Rattle.edge_laws.specs.Rank.{ranked}
+use Rattle.hg_base.proofs.Lists.{IsIn-append, IsIn-filter, IsIn-kept}
 use Rattle.hg_base.proofs.CountMore.{count_below-step}
 use Rattle.hg_base.proofs.Counts.{is_least-from}
-use Rattle.hg_base.proofs.Drops.{holds}
+use Rattle.edge_laws.proofs.Drops.{holds}
 use Rattle.hg_base.proofs.Leasts.{first_of, least_of-is, least_of-most, least_of-agree}
-use Rattle.hg_base.proofs.Members.{IsIn-filter, IsIn-kept}
-use Rattle.hg_base.proofs.Ranked.{AreApart-ranked, AreWithin-ranked, ends-within}
-use Rattle.hg_base.proofs.Sets.{same_test, joined-among}
-use Rattle.hg_base.proofs.Walks.{IsSame-joined, Joined-joined}
+use Rattle.edge_laws.proofs.Ranked.{AreApart-ranked, AreWithin-ranked, ends-within}
+use Rattle.edge_laws.proofs.Sets.{same_test, joined-among}
+use Rattle.edge_laws.proofs.Walks.{IsSame-joined, Joined-joined}
 use Rattle.watershed_cut.specs.Minima.{InMinimum, SameMinimum}
 use Rattle.watershed_cut.specs.MinimumTests.{minimum_edges, in_minimum, same_minimum, is_head, minimum_count, vertex_label}
 use Rattle.watershed_cut.specs.Forest.{is_forest, trees, IsForestList}
-use Rattle.watershed_cut.specs.Watershed.{reaches_label, tree_label, is_cut}
+use Rattle.watershed_cut.specs.Watershed.{reaches_label, tree_label, is_cut_edge}
 use Rattle.watershed_cut.proofs.AnyIn.{any-from, any-to, range-to, range-from}
 use Rattle.watershed_cut.proofs.ForestLaws.{forest-reach, forest-one}
 use Rattle.watershed_cut.proofs.ForestWalks.{label-zero}
@@ -195,7 +196,7 @@ pub tree-label_walk : (n : ℕ) (s : EdgeList) → AreApart s → AreWithin n s 
 tree-label_walk n s apart within x y my j = tree-label n s apart within x y my (holds (trees n s) x y j)
 
 -- the cut edges lead from tree to tree
-pub cut-between : (g : WeightedGraph) → IsGraph g → (e : ℕ) → e < length g.edges → (is_cut g e ≡ true) ↔ (¬ Joined (trees g.n (ranked g)) (first_end g e) (second_end g e))
+pub cut-between : (g : WeightedGraph) → IsGraph g → (e : ℕ) → e < length g.edges → (is_cut_edge g e ≡ true) ↔ (¬ Joined (trees g.n (ranked g)) (first_end g e) (second_end g e))
 cut-between g h e lt =
     let s = ranked g in
     let ends = ends-within g h e lt in

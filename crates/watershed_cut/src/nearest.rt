@@ -1,7 +1,7 @@
 ghost use Rattle.std.specs.Prelude.{◌≡◌, ◌<◌, ◌≤◌, length, IfOk};
 ghost use Rattle.std.specs.List.{range_with_len};
-ghost use Rattle.partition_tree.specs.Forest.{nodes, IsForest};
-ghost use Rattle.watershed_cut.specs.TreePasses.{AreLeafHolders, AreHolders, AreNearest};
+ghost use Rattle.partition_tree.specs.TreeLists.{nodes, IsWellFormed};
+ghost use Rattle.watershed_cut.specs.NearestHolders.{AreLeafHolders, AreHolders, AreNearestHolders};
 
 use crate::minima::Minima;
 use crate::plateaus::own_numbers;
@@ -15,8 +15,8 @@ pub(crate) fn nearest_holders(
     minima: &Minima,
 ) -> Result<Vec<u32>, AllocError>
     requires { length minima.now.vertices ≡ tree.now.leaves }
-    ensures forest { IfOk result (λ near. IsForest tree.now) }
-    ensures near { IfOk result (λ near. AreNearest tree.now minima.now.vertices near.items) }
+    ensures well_formed { IfOk result (λ near. IsWellFormed tree.now) }
+    ensures near { IfOk result (λ near. AreNearestHolders tree.now minima.now.vertices near.items) }
 {
     let holds = holders(alloc, tree, minima)?;
     let mut near = own_numbers(alloc, tree.nodes())?;
@@ -63,7 +63,7 @@ fn send_up(tree: &Tree, minima: &Minima, holds: &mut [bool])
 fn send_nearest(tree: &Tree, minima: &Minima, holds: &[bool], near: &mut [u32])
     requires holds { AreHolders tree.now minima.now.vertices holds.now }
     requires own { near.old ≡ range_with_len 0 (nodes tree.now) }
-    ensures { AreNearest tree.now minima.now.vertices near.new }
+    ensures { AreNearestHolders tree.now minima.now.vertices near.new }
 {
     let _ = minima;
     for i in (0..tree.nodes()).rev() {

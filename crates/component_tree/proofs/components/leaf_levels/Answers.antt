@@ -1,5 +1,5 @@
 use Rattle.component_tree.specs.MinTree.{value_at}
-use Rattle.component_tree.proofs.PassSteps.{values_next}
+use Rattle.component_tree.proofs.ListSteps.{values_next}
 use Rattle.component_tree.proofs.components.leaf_levels.Goals as goal
 
 pub loop-x-preserved : goal.loop-x-preserved

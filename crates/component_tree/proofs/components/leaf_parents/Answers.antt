@@ -1,6 +1,6 @@
 use Rattle.std.proofs.Common.{ℕ, ◌+◌, ◌<◌, ◌≤◌, ap, arith, length, get_or}
-use Rattle.component_tree.specs.Passes.{leaf_parent}
-use Rattle.component_tree.proofs.PassSteps.{values_next}
+use Rattle.component_tree.specs.NodeComponents.{leaf_parent}
+use Rattle.component_tree.proofs.ListSteps.{values_next}
 use Rattle.component_tree.proofs.components.leaf_parents.Goals as goal
 
 pub overflow_add-leaves-in-loop-x : goal.overflow_add-leaves-in-loop-x

@@ -1,6 +1,6 @@
 use Rattle.std.proofs.Common.{refl, sym, ◌∙◌, ap}
-use Rattle.component_tree.specs.Passes.{is_component, component_of}
-use Rattle.component_tree.proofs.PassSteps.{values_more, values_same}
+use Rattle.component_tree.specs.NodeComponents.{is_component, component_of}
+use Rattle.component_tree.proofs.ListSteps.{values_more, values_same}
 use Rattle.component_tree.proofs.nodes.by_node.Goals as goal
 use Rattle.component_tree.proofs.nodes.by_node.Goals.{then-is_component+in_ok-push, else-is_component}
 

@@ -1,6 +1,6 @@
 use Rattle.std.proofs.Common.{◌≡◌, ◌+◌, ◌-◌, ◌<◌, ℕ, sym, ◌∙◌, subst, arith, length, get_or, set}
 use Rattle.component_tree.proofs.Placing.{AreSentFrom, sent-first, sent-own, sent-down, sent-all}
-use Rattle.partition_tree.proofs.ForestClimbs.{forest-climbs}
+use Rattle.partition_tree.proofs.WellFormed.{well_formed-climbs}
 use Rattle.component_tree.proofs.nodes.send_down.Goals as goal
 
 pub loop-i-init : goal.loop-i-init
@@ -22,7 +22,7 @@ loop-i-preserved-then-not-is_component c =
     let e : c.loop-i.i ≡ c.loop-i.i - 1 + 1 = omega arith in
     let low : c.loop-i.i - 1 < length t.parents = omega (arith, c.loop-i.auto.i, c.nodes-i.ensures.value) in
     subst (λ (p : ℕ). AreSentFrom t c.args.levels.now c.args.list.now (c.loop-i.i - 1) (set c.loop-i.places (c.loop-i.i - 1) (get_or c.loop-i.places p 0))) (sym c.parent.ensures.value)
-    (sent-down t c.args.levels.now c.args.list.now (c.loop-i.i - 1) c.loop-i.places (forest-climbs t c.nodes-i.ensures.forest) low (sym c.is_component.ensures ∙ c.if-not-is_component.true) c.requires.list.1.is
+    (sent-down t c.args.levels.now c.args.list.now (c.loop-i.i - 1) c.loop-i.places (well_formed-climbs t c.nodes-i.ensures.well_formed) low (sym c.is_component.ensures ∙ c.if-not-is_component.true) c.requires.list.1.is
     (subst (λ (n : ℕ). AreSentFrom t c.args.levels.now c.args.list.now n c.loop-i.places) e c.loop-i.invariant))
 
 pub returns : goal.returns

@@ -1,6 +1,6 @@
 use Rattle.std.proofs.Common.{◌≡◌, ◌+◌, ◌-◌, ◌<◌, ℕ, sym, ◌∙◌, subst, arith, length, get_or, set}
-use Rattle.quasi_flat_zones.proofs.PassLemmas.{AreSentFrom, sent_first, sent_kept, sent_down}
-use Rattle.partition_tree.proofs.ForestClimbs.{forest-climbs}
+use Rattle.quasi_flat_zones.proofs.ZoneNumberLemmas.{AreSentFrom, sent_first, sent_kept, sent_down}
+use Rattle.partition_tree.proofs.WellFormed.{well_formed-climbs}
 use Rattle.quasi_flat_zones.proofs.numbers.send_down.Goals as goal
 
 pub loop-i-init : goal.loop-i-init
@@ -19,6 +19,6 @@ loop-i-preserved-then-not-keeps c =
     let e : c.loop-i.i ≡ c.loop-i.i - 1 + 1 = omega arith in
     let low : c.loop-i.i - 1 < length t.parents = omega (arith, c.loop-i.auto.i, c.nodes-i.ensures.value) in
     subst (λ (p : ℕ). AreSentFrom t (c.loop-i.i - 1) (set c.loop-i.numbers (c.loop-i.i - 1) (get_or c.loop-i.numbers p 0))) (sym c.parent.ensures.value)
-    (sent_down t (forest-climbs t c.nodes-i.ensures.forest) (c.loop-i.i - 1) c.loop-i.numbers low
+    (sent_down t (well_formed-climbs t c.nodes-i.ensures.well_formed) (c.loop-i.i - 1) c.loop-i.numbers low
     (subst (λ (n : ℕ). AreSentFrom t n c.loop-i.numbers) e c.loop-i.invariant)
     (sym c.keeps.ensures ∙ c.if-not-keeps.true))

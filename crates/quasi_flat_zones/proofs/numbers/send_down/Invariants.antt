@@ -1,4 +1,4 @@
-use Rattle.quasi_flat_zones.proofs.PassLemmas.{AreSentFrom}
+use Rattle.quasi_flat_zones.proofs.ZoneNumberLemmas.{AreSentFrom}
 use Rattle.quasi_flat_zones.proofs.numbers.send_down.Given as goal
 
 -- the nodes from i on have the number of their nearest kept node

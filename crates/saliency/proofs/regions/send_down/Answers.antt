@@ -1,7 +1,7 @@
 use Rattle.std.proofs.Common.{◌≡◌, ◌+◌, ◌-◌, ◌<◌, ◌≤◌, ℕ, sym, subst, arith, length, get_or, set}
-use Rattle.hg_base.specs.Tree.{parent, altitude}
+use Rattle.tree_laws.specs.Tree.{parent, altitude}
 use Rattle.saliency.proofs.TopLemmas.{AreTopsFrom, tops_first, tops_self, tops_parent}
-use Rattle.partition_tree.proofs.ForestClimbs.{forest-climbs}
+use Rattle.partition_tree.proofs.WellFormed.{well_formed-climbs}
 use Rattle.saliency.proofs.regions.send_down.Goals as goal
 
 pub loop-i-init : goal.loop-i-init
@@ -23,5 +23,5 @@ loop-i-preserved-then-altitude-level c =
     let flat : altitude t (parent t (c.loop-i.i - 1)) ≤ c.args.level =
     subst (λ (p : ℕ). altitude t p ≤ c.args.level) c.parent-parent.ensures.value (omega (arith, c.altitude.ensures.value, c.if-altitude-level.true)) in
     subst (λ (p : ℕ). AreTopsFrom t c.args.level (c.loop-i.i - 1) (set c.loop-i.tops (c.loop-i.i - 1) (get_or c.loop-i.tops p 0))) (sym c.parent-parent.ensures.value)
-    (tops_parent t (forest-climbs t c.nodes-i.ensures.forest) c.args.level (c.loop-i.i - 1) c.loop-i.tops low
+    (tops_parent t (well_formed-climbs t c.nodes-i.ensures.well_formed) c.args.level (c.loop-i.i - 1) c.loop-i.tops low
     (subst (λ (n : ℕ). AreTopsFrom t c.args.level n c.loop-i.tops) e c.loop-i.invariant) flat)

@@ -1,4 +1,4 @@
-use Rattle.watershed_cut.proofs.NearestPasses.{AreNearestFrom}
+use Rattle.watershed_cut.proofs.HolderStops.{AreNearestFrom}
 use Rattle.watershed_cut.proofs.nearest.send_nearest.Given as goal
 
 -- the nodes from i on have their nearest

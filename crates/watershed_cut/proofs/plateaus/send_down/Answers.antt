@@ -1,7 +1,7 @@
 use Rattle.std.proofs.Common.{◌≡◌, ◌+◌, ◌-◌, ◌<◌, ℕ, sym, subst, arith, length, get_or, set, ◌∙◌, ap}
-use Rattle.hg_base.specs.Tree.{altitude}
-use Rattle.partition_tree.proofs.ForestClimbs.{forest-climbs}
-use Rattle.watershed_cut.proofs.PlateauPasses.{ArePlateausFrom, plateaus_first, plateaus_self, plateaus_parent, plateaus_all}
+use Rattle.tree_laws.specs.Tree.{altitude}
+use Rattle.partition_tree.proofs.WellFormed.{well_formed-climbs}
+use Rattle.watershed_cut.proofs.PlateauStops.{ArePlateausFrom, plateaus_first, plateaus_self, plateaus_parent, plateaus_all}
 use Rattle.watershed_cut.proofs.plateaus.send_down.Goals as goal
 
 pub loop-i-init : goal.loop-i-init
@@ -23,7 +23,7 @@ loop-i-preserved-then-altitude c =
     let low : c.loop-i.i - 1 < length t.parents = omega (arith, c.loop-i.auto.i, c.nodes-i.ensures.value) in
     let level : altitude t c.parent-parent.result ≡ altitude t (c.loop-i.i - 1) = omega (arith, c.altitude.ensures.value, c.altitude-in-loop-i.ensures.value, c.if-altitude.true) in
     subst (λ (p : ℕ). ArePlateausFrom t (c.loop-i.i - 1) (set c.loop-i.tops (c.loop-i.i - 1) (get_or c.loop-i.tops p 0))) (sym c.parent-parent.ensures.value)
-    (plateaus_parent t (forest-climbs t c.nodes-i.ensures.forest) (c.loop-i.i - 1) c.loop-i.tops low
+    (plateaus_parent t (well_formed-climbs t c.nodes-i.ensures.well_formed) (c.loop-i.i - 1) c.loop-i.tops low
     (subst (λ (n : ℕ). ArePlateausFrom t n c.loop-i.tops) e c.loop-i.invariant) (sym (ap (altitude t) c.parent-parent.ensures.value) ∙ level))
 
 pub returns : goal.returns

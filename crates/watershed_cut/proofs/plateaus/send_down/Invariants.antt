@@ -1,4 +1,4 @@
-use Rattle.watershed_cut.proofs.PlateauPasses.{ArePlateausFrom}
+use Rattle.watershed_cut.proofs.PlateauStops.{ArePlateausFrom}
 use Rattle.watershed_cut.proofs.plateaus.send_down.Given as goal
 
 -- the nodes from i on have their plateaus

@@ -1,8 +1,9 @@
 use Rattle.std.proofs.Common.{◌≡◌, ℕ, ◌∙◌, sym, ap, subst, refl, length}
-use Rattle.hg_base.specs.Edges.{ListedEdge, IsIn}
+use Rattle.edge_laws.specs.Edges.{ListedEdge}
+use Rattle.hg_base.specs.Lists.{IsIn}
 use Rattle.edge_order.specs.Order.{EdgeOrder}
 use Rattle.tile_plan.specs.Grids.{tiles_in, rows_of}
-use Rattle.tile_plan.specs.Frames.{vertices_in}
+use Rattle.tile_plan.specs.TiledPictures.{vertices_in}
 use Rattle.tile_plan.specs.Plan.{TilePlan, IsEdgeAmong, home, place_of, vertices}
 use Rattle.tile_plan.proofs.Agreeing.{keys-below, table-at, plan-is}
 use Rattle.tile_plan.proofs.plan.Plan.laid.Goals as goal

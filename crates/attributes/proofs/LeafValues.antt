@@ -3,8 +3,8 @@ use Rattle.std.proofs.Common.{◌≡◌, ℕ, ◌+◌, ◌-◌, ◌<◌, ◌≤�
 use Rattle.std.specs.Prelude.{replicate}
 use Rattle.std.proofs.lemmas.List.{take_all, drop_all, length-replicate, get_or-replicate, get_or-append_right, get_or_append_left}
 use Rattle.std.specs.List.{range_with_len}
-use Rattle.hg_base.specs.Tree.{ParentTree}
-use Rattle.hg_base.specs.Levels.{is_above}
+use Rattle.tree_laws.specs.Tree.{ParentTree}
+use Rattle.tree_laws.specs.Levels.{is_above}
 use Rattle.hg_base.proofs.Passing.{passing}
 use Rattle.partition_tree.specs.Forest.{nodes, IsForest}
 use Rattle.partition_tree.proofs.ForestClimbs.{forest-leaves}

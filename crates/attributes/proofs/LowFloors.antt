@@ -7,20 +7,20 @@ use Rattle.std.proofs.lemmas.Bool.{cases_Bool, cases_eq, eqb-true, eq-eqb, le-le
 use Rattle.std.proofs.lemmas.Option.{get_or_from_slice_get, slice_get_within}
 use Rattle.hg_base.specs.declared.graph.Edge.{Edge}
 use Rattle.hg_base.specs.Graph.{WeightedGraph, JoinsTwo}
-use Rattle.hg_base.specs.Edges.{ListedEdge, EdgeList, IsIn, AreWithin, Joined, joined, below, joins}
-use Rattle.hg_base.specs.Rank.{rank, number_at, listed, ranked}
-use Rattle.hg_base.specs.Saliency.{at_most}
-use Rattle.hg_base.specs.Tree.{parent, altitude, IsAbove, place, graph_tree}
-use Rattle.hg_base.proofs.Walks.{IsSame-joined}
-use Rattle.hg_base.proofs.Members.{IsIn-filter, IsIn-kept}
-use Rattle.hg_base.proofs.Sets.{IsIn-joins_kept}
-use Rattle.hg_base.proofs.Nodes.{slice_get-some}
-use Rattle.hg_base.proofs.Ranks.{number_at-below}
-use Rattle.hg_base.proofs.Ranked.{ranked-at, AreApart-ranked, AreByWeight-ranked, IsIn-ranked}
-use Rattle.hg_base.proofs.Climbs.{above-parent, ancestor-root}
-use Rattle.hg_base.proofs.FrontOnce.{leaf_or_made, leaf-alone, below-ends, ends-apart}
-use Rattle.hg_base.proofs.Levels.{level-tree}
-use Rattle.hg_base.proofs.Meeting.{altitude-leaf, altitude-inner}
+use Rattle.edge_laws.specs.Edges.{ListedEdge, EdgeList, AreWithin, Joined, joined, below, joins}
+use Rattle.hg_base.specs.Lists.{IsIn}
+use Rattle.edge_laws.specs.Rank.{rank, number_at, listed, ranked}
+use Rattle.edge_laws.specs.Saliency.{at_most}
+use Rattle.tree_laws.specs.Tree.{parent, altitude, IsAbove, place, graph_tree}
+use Rattle.edge_laws.proofs.Walks.{IsSame-joined}
+use Rattle.hg_base.proofs.Lists.{IsIn-filter, IsIn-kept, slice_get-some}
+use Rattle.edge_laws.proofs.Sets.{IsIn-joins_kept}
+use Rattle.edge_laws.proofs.Ranks.{number_at-below}
+use Rattle.edge_laws.proofs.Ranked.{ranked-at, AreApart-ranked, AreByWeight-ranked, IsIn-ranked}
+use Rattle.tree_laws.proofs.Climbs.{above-parent, ancestor-root}
+use Rattle.tree_laws.proofs.FrontOnce.{leaf_or_made, leaf-alone, below-ends, ends-apart}
+use Rattle.tree_laws.proofs.Levels.{level-tree}
+use Rattle.tree_laws.proofs.Meeting.{altitude-leaf, altitude-inner}
 use Rattle.partition_tree.proofs.TreeLemmas.{tree-up}
 use Rattle.attributes.specs.Attributes.{has_end, weights_at, least, floor, altitude_over}
 use Rattle.attributes.proofs.Gathers.{least-low}

@@ -7,14 +7,14 @@ use Rattle.std.proofs.lemmas.List.Folds.{fold-map}
 use Rattle.std.proofs.lemmas.List.FromFn.{length-range_with_len, get_or-range_with_len, get_or-map-range_with_len}
 use Rattle.std.proofs.Math.Nat.{mul-add, mul-zero}
 use Rattle.hg_base.specs.Graph.{WeightedGraph}
-use Rattle.hg_base.specs.Edges.{IsIn}
-use Rattle.hg_base.specs.Rank.{ranked}
-use Rattle.hg_base.specs.Tree.{ParentTree, parent, altitude, IsAbove, graph_tree}
-use Rattle.hg_base.specs.Levels.{is_above}
-use Rattle.hg_base.proofs.Members.{IsIn-filter, IsIn-kept}
-use Rattle.hg_base.proofs.Ranked.{AreApart-ranked, AreByWeight-ranked}
-use Rattle.hg_base.proofs.Levels.{level-tree}
-use Rattle.hg_base.proofs.Tops.{is_above-from, is_above-to}
+use Rattle.hg_base.specs.Lists.{IsIn}
+use Rattle.edge_laws.specs.Rank.{ranked}
+use Rattle.tree_laws.specs.Tree.{ParentTree, parent, altitude, IsAbove, graph_tree}
+use Rattle.tree_laws.specs.Levels.{is_above}
+use Rattle.hg_base.proofs.Lists.{IsIn-filter, IsIn-kept}
+use Rattle.edge_laws.proofs.Ranked.{AreApart-ranked, AreByWeight-ranked}
+use Rattle.tree_laws.proofs.Levels.{level-tree}
+use Rattle.tree_laws.proofs.Tops.{is_above-from, is_above-to}
 use Rattle.partition_tree.specs.Forest.{nodes, IsForest}
 use Rattle.partition_tree.proofs.TreeLemmas.{tree-forest}
 use Rattle.partition_tree.proofs.ForestClimbs.{forest-climbs, forest-leaves}

@@ -4,11 +4,11 @@ use Rattle.std.specs.Prelude.{◌==◌}
 use Rattle.std.specs.List.{range_with_len}
 use Rattle.std.proofs.lemmas.Bool.{cases_eq, eqb-true, eq-eqb, ne_eqb}
 use Rattle.std.proofs.lemmas.List.{get_or-set_same, get_or-set_other}
-use Rattle.hg_base.specs.Tree.{ParentTree, parent}
-use Rattle.hg_base.specs.Levels.{is_above}
-use Rattle.hg_base.proofs.Sets.{same_test}
+use Rattle.tree_laws.specs.Tree.{ParentTree, parent}
+use Rattle.tree_laws.specs.Levels.{is_above}
+use Rattle.edge_laws.proofs.Sets.{same_test}
 use Rattle.hg_base.proofs.Passing.{passing}
-use Rattle.hg_base.proofs.Tops.{is_above-from, is_above-to}
+use Rattle.tree_laws.proofs.Tops.{is_above-from, is_above-to}
 use Rattle.partition_tree.specs.Forest.{nodes, IsForest}
 use Rattle.partition_tree.specs.Paths.{stop}
 use Rattle.partition_tree.proofs.PathLemmas.{stop-here, stop-past, stop-cases, stop-decides, forest-rises}

@@ -3,8 +3,8 @@ use Rattle.std.specs.Prelude.{ℕ, ◌==◌, ◌*◌, ◌-◌, Bool, ◌||◌, L
 use Rattle.std.specs.List.{range_with_len, fold, sum_by}
 use Rattle.hg_base.specs.declared.graph.Edge.{Edge}
 use Rattle.hg_base.specs.Graph.{WeightedGraph}
-use Rattle.hg_base.specs.Tree.{ParentTree, parent, altitude, graph_tree}
-use Rattle.hg_base.specs.Levels.{is_above}
+use Rattle.tree_laws.specs.Tree.{ParentTree, parent, altitude, graph_tree}
+use Rattle.tree_laws.specs.Levels.{is_above}
 
 -- x is an end of the edge
 abbrev pub has_end : ℕ → Edge → Bool

@@ -1,8 +1,8 @@
 -- Values of nodes, put together up a tree.
 use Rattle.std.specs.Prelude.{◌≡◌, ℕ, ◌+◌, ◌<◌, List, length, map, filter, min, get_or}
 use Rattle.std.specs.List.{range_with_len, fold}
-use Rattle.hg_base.specs.Tree.{ParentTree}
-use Rattle.hg_base.specs.Levels.{is_above}
+use Rattle.tree_laws.specs.Tree.{ParentTree}
+use Rattle.tree_laws.specs.Levels.{is_above}
 use Rattle.attributes.specs.declared.gather.Operation.{Operation}
 use Rattle.attributes.specs.declared.gather.Operation.TheVariants as operations
 

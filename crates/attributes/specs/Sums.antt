@@ -2,7 +2,7 @@
 use Rattle.std.specs.Prelude.{◌≡◌, ℕ, ◌*◌, ◌<◌, ◌≤◌, ◌^◌, List, length, map, get_or}
 use Rattle.std.specs.List.{sum_by}
 use Rattle.hg_base.specs.Graph.{WeightedGraph}
-use Rattle.hg_base.specs.Tree.{ParentTree}
+use Rattle.tree_laws.specs.Tree.{ParentTree}
 use Rattle.attributes.specs.Attributes.{area, floor, least, vertices, area_of}
 
 -- for each node the sums of its vertices' areas and of their areas times their floors, and their lowest floor

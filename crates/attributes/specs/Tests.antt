@@ -1,7 +1,7 @@
 -- Graphs of the tests.
 use Rattle.std.specs.Prelude.{ℕ, List, map}
 use Rattle.hg_base.specs.Graph.{WeightedGraph}
-use Rattle.hg_base.specs.Worked.{edge}
+use Rattle.tree_laws.specs.Worked.{edge}
 
 -- the graph with these areas, and these edges: two ends and a weight each
 abbrev pub graph_from : ℕ → List ℕ → List (ℕ × ℕ × ℕ) → WeightedGraph

@@ -2,7 +2,7 @@
 ghost use Rattle.std.specs.Prelude.{◌≡◌, ℕ, ◌+◌, ◌*◌, ◌<◌, ◌≤◌, length};
 ghost use Rattle.std.specs.List.{sum_by};
 ghost use Rattle.hg_base.specs.Graph.{WeightedGraph, IsGraph};
-ghost use Rattle.hg_base.specs.Tree.{IsAbove, graph_tree};
+ghost use Rattle.tree_laws.specs.Tree.{IsAbove, graph_tree};
 ghost use Rattle.attributes.specs.Attributes.{area, floor, vertices, area_of, volume_under, altitude_over};
 
 /// No floor of a vertex below a node is above the altitude of the node's parent, so that the subtractions in volume and

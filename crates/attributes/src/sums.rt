@@ -1,5 +1,5 @@
 ghost use Rattle.std.specs.Prelude.{◌≡◌, IfOk};
-ghost use Rattle.hg_base.specs.Tree.{graph_tree};
+ghost use Rattle.tree_laws.specs.Tree.{graph_tree};
 ghost use Rattle.attributes.specs.Floors.{IsRead};
 ghost use Rattle.attributes.specs.Sums.{AreSums};
 

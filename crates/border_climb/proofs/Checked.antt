@@ -2,7 +2,8 @@
 use Rattle.std.proofs.Common.{◌≡◌, ℕ, inl, inr, sym, ◌∙◌, ap, List, [], ◌∷◌, map, ◌==◌, Bool, true}
 use Rattle.std.specs.Prelude.{not, ◌&&◌}
 use Rattle.std.proofs.lemmas.Bool.{and_parts, eq-eqb, true≢false}
-use Rattle.hg_base.specs.Edges.{ListedEdge, IsIn, AreApart}
+use Rattle.edge_laws.specs.Edges.{ListedEdge, AreApart}
+use Rattle.hg_base.specs.Lists.{IsIn}
 use Rattle.hg_base.specs.declared.graph.PlacedEdge.{PlacedEdge}
 use Rattle.border_climb.specs.Parts.{listed}
 

@@ -2,20 +2,21 @@
 use Rattle.std.proofs.Common.{◌≡◌, ℕ, suc, ◌+◌, ◌<◌, ◌≤◌, true, inl, inr, refl, sym, ◌∙◌, subst, ap, arith, ◌∷◌}
 use Rattle.std.specs.Prelude.{Option, Some, None}
 use Rattle.std.proofs.lemmas.Bool.{cases_Bool, cases_order, cases_eq, true≢false, or_left}
-use Rattle.hg_base.specs.Edges.{ListedEdge, EdgeList, IsIn, AreEnds, Joined, joined, below, joins, next}
-use Rattle.hg_base.specs.Saliency.{MeetFirst}
-use Rattle.hg_base.proofs.Walks.{IsSame-joined}
-use Rattle.hg_base.proofs.Sets.{joined-same, IsIn-joins, IsIn-joins_kept, IsIn-chain_kept}
-use Rattle.hg_base.proofs.Fronts.{apart-one}
-use Rattle.hg_base.proofs.Components.{rank_above, below-all}
-use Rattle.hg_base.proofs.Members.{IsSameSet-back}
-use Rattle.hg_base.proofs.Next.{IsIn-leaving}
-use Rattle.hg_base.proofs.Firsts.{IsUpTo, IsBefore}
-use Rattle.hg_base.proofs.Splice.{next-joined}
-use Rattle.hg_base.proofs.Merged.{next-row}
-use Rattle.hg_base.proofs.LawForms.{Joined-back}
-use Rattle.hg_base.proofs.Drops.{joins-kept, meets_both, holds}
-use Rattle.hg_base.proofs.Ends.{next-later, next-is, next-quiet, stays-before, reached-leaves, apart-back, ends-apart, Apart, needed, joins-stays, next-neither, next-single, next-both}
+use Rattle.edge_laws.specs.Edges.{ListedEdge, EdgeList, AreEnds, Joined, joined, below, joins, next}
+use Rattle.hg_base.specs.Lists.{IsIn}
+use Rattle.edge_laws.specs.Saliency.{MeetFirst}
+use Rattle.edge_laws.proofs.Walks.{IsSame-joined}
+use Rattle.edge_laws.proofs.Sets.{joined-same, IsIn-joins, IsIn-joins_kept, IsIn-chain_kept}
+use Rattle.edge_laws.proofs.Fronts.{apart-one}
+use Rattle.edge_laws.proofs.Components.{rank_above, below-all}
+use Rattle.edge_laws.proofs.Members.{IsSameSet-back}
+use Rattle.edge_laws.proofs.Next.{IsIn-leaving}
+use Rattle.edge_laws.proofs.Firsts.{IsUpTo, IsBefore}
+use Rattle.edge_laws.proofs.Splice.{next-joined}
+use Rattle.edge_laws.proofs.Merged.{next-row}
+use Rattle.edge_laws.proofs.LawForms.{Joined-back}
+use Rattle.edge_laws.proofs.Drops.{joins-kept, meets_both, holds}
+use Rattle.edge_laws.proofs.Ends.{next-later, next-is, next-quiet, stays-before, reached-leaves, apart-back, ends-apart, Apart, needed, joins-stays, next-neither, next-single, next-both}
 use Rattle.node_region.specs.Pool.{CellPool, cell_at, leaf_of}
 use Rattle.node_region.specs.declared.cell.Cell.{Cell}
 use Rattle.border_climb.specs.Linked.{HasRank, Points, IsCellOf, AreLinked}

@@ -5,12 +5,14 @@ use Rattle.std.proofs.lemmas.Bool.{cases_eq, false_from_ne_true}
 use Rattle.std.proofs.lemmas.List.Sums.{sum_by-set}
 use Rattle.hg_base.proofs.CountBy.{count_by-is}
 use Rattle.std.proofs.lemmas.List.{length-set, get_or-set_same, get_or-set_other}
-use Rattle.hg_base.specs.Edges.{ListedEdge, EdgeList, IsIn, IsWalk, joined, joins, count_below, is_least, components}
-use Rattle.hg_base.proofs.Walks.{IsSame-joined, Joined-joined}
-use Rattle.hg_base.proofs.Members.{IsRising}
-use Rattle.hg_base.proofs.Sets.{IsIn-joins_kept, IsRising-joins}
+use Rattle.edge_laws.specs.Edges.{ListedEdge, EdgeList, IsWalk, joined, joins, components}
+use Rattle.hg_base.specs.Lists.{IsIn}
+use Rattle.hg_base.specs.Counting.{count_below, is_least}
+use Rattle.edge_laws.proofs.Walks.{IsSame-joined, Joined-joined}
+use Rattle.edge_laws.proofs.Members.{IsRising}
+use Rattle.edge_laws.proofs.Sets.{IsIn-joins_kept, IsRising-joins}
 use Rattle.hg_base.proofs.Counts.{count_below-all, is_least-from}
-use Rattle.hg_base.proofs.Components.{joins-count}
+use Rattle.edge_laws.proofs.Components.{joins-count}
 use Rattle.node_region.specs.Pool.{CellPool, IsPool, count, cell_at}
 use Rattle.node_region.specs.declared.cell.Cell.{Cell}
 use Rattle.node_region.proofs.Entries.{entry-is, entry-covered}

@@ -2,16 +2,18 @@
 use Rattle.std.proofs.Common.{◌≡◌, ℕ, zero, suc, ◌<◌, ◌≤◌, Bool, true, false, cond, inl, inr, refl, sym, ◌∙◌, subst, ap, arith, [], ◌∷◌, length}
 use Rattle.std.specs.Prelude.{filter, nat_le, Option, Some, None, IsSome}
 use Rattle.std.proofs.lemmas.Bool.{cases_Bool, leb-true, le-leb, true≢false, or_left}
-use Rattle.hg_base.specs.Edges.{ListedEdge, EdgeList, IsIn, AreApart, below, joins, chain, first_edge, next}
-use Rattle.hg_base.specs.Placed.{ranks}
-use Rattle.hg_base.proofs.Walks.{IsSame-joined}
-use Rattle.hg_base.proofs.Members.{IsIn-kept, IsIn-filter, IsRising}
-use Rattle.hg_base.proofs.Sets.{IsIn-joins, IsIn-joins_kept, IsIn-chain, IsIn-chain_kept, IsRising-chain}
-use Rattle.hg_base.proofs.Fronts.{apart-one}
-use Rattle.hg_base.proofs.Leaving.{leaves}
-use Rattle.hg_base.proofs.Merged.{next-row, joined-to_end}
-use Rattle.hg_base.proofs.Next.{IsIn-leaving, IsIn-leaving_kept}
-use Rattle.hg_base.proofs.Ends.{next-is}
+use Rattle.edge_laws.specs.Edges.{ListedEdge, EdgeList, AreApart, below, joins, chain, first_edge, next}
+use Rattle.hg_base.specs.Lists.{IsIn}
+use Rattle.edge_laws.specs.Placed.{ranks}
+use Rattle.edge_laws.proofs.Walks.{IsSame-joined}
+use Rattle.hg_base.proofs.Lists.{IsIn-kept, IsIn-filter}
+use Rattle.edge_laws.proofs.Members.{IsRising}
+use Rattle.edge_laws.proofs.Sets.{IsIn-joins, IsIn-joins_kept, IsIn-chain, IsIn-chain_kept, IsRising-chain}
+use Rattle.edge_laws.proofs.Fronts.{apart-one}
+use Rattle.edge_laws.proofs.Leaving.{leaves}
+use Rattle.edge_laws.proofs.Merged.{next-row, joined-to_end}
+use Rattle.edge_laws.proofs.Next.{IsIn-leaving, IsIn-leaving_kept}
+use Rattle.edge_laws.proofs.Ends.{next-is}
 use Rattle.node_region.specs.Pool.{CellPool, cell_at, leaf_of, IsUsed}
 use Rattle.node_region.specs.declared.cell.Cell.{Cell}
 use Rattle.border_climb.specs.Stands.{PartState, IsClimb, IsMet, IsMetFromPlace, Stands}

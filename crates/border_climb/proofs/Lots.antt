@@ -1,18 +1,18 @@
 -- Edges that are given one after another.
 use Rattle.std.proofs.lemmas.List.{take_more, append-nil}
-use Rattle.border_climb.specs.Parts.{KeepsPart}
+use Rattle.border_climb.specs.Parts.{KeepsPart, listed, CanTake}
 use Rattle.border_climb.proofs.Writes.{range-on}
 use Rattle.border_climb.proofs.Parts.{covered-on}
 use Rattle.std.proofs.Common.{◌≡◌, ◌≢◌, ℕ, zero, suc, ◌+◌, ◌<◌, ◌⊎◌, inl, inr, refl, sym, ◌∙◌, subst, ap, arith, List, [], ◌∷◌, ◌++◌, length, map, take, drop, get_or, append_assoc, length-append}
-use Rattle.hg_base.specs.Edges.{ListedEdge, EdgeList, IsIn, IsSameSet, AreApart}
-use Rattle.hg_base.specs.Placed.{placed, ranks}
+use Rattle.edge_laws.specs.Edges.{ListedEdge, EdgeList, IsSameSet, AreApart}
+use Rattle.hg_base.specs.Lists.{IsIn}
+use Rattle.edge_laws.specs.Placed.{placed, ranks}
 use Rattle.hg_base.specs.declared.graph.PlacedEdge.{PlacedEdge}
-use Rattle.hg_base.proofs.Components.{IsIn-append, IsIn-append_back}
-use Rattle.hg_base.proofs.Sets.{chain-same}
-use Rattle.hg_base.proofs.SideBySide.{AreApart-turned}
+use Rattle.hg_base.proofs.Lists.{IsIn-append, IsIn-append_back}
+use Rattle.edge_laws.proofs.Sets.{chain-same}
+use Rattle.edge_laws.proofs.SideBySide.{AreApart-turned}
 use Rattle.node_region.specs.Pool.{IsCovered, leaf_of}
 use Rattle.border_climb.specs.Stands.{PartState, IsClimb, Stands, IsNewRank}
-use Rattle.border_climb.specs.Parts.{listed, CanTake}
 
 -- The order of the edges is free: a part that stands for a list stands for each other one with the same edges.
 pub stands-same : (part : PartState) (s t : EdgeList) → IsSameSet s t → AreApart t → length s ≡ length t → Stands part s → Stands part t

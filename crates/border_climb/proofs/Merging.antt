@@ -2,13 +2,14 @@
 use Rattle.std.proofs.Common.{◌≡◌, ℕ, suc, ◌<◌, ◌≤◌, true, false, ◌⊎◌, inl, inr, refl, sym, ◌∙◌, subst, ap, arith, ◌∷◌}
 use Rattle.std.specs.Prelude.{Option, Some, None}
 use Rattle.std.proofs.lemmas.Bool.{cases_Bool, cases_order, cases_eq, or_left}
-use Rattle.hg_base.specs.Edges.{ListedEdge, EdgeList, IsIn, AreEnds, AreApart, joined, below, joins, chain, next}
-use Rattle.hg_base.proofs.Walks.{IsSame-joined}
-use Rattle.hg_base.proofs.Sets.{IsIn-joins, IsIn-joins_kept, IsOnChain, IsIn-chain_kept}
-use Rattle.hg_base.proofs.Next.{IsIn-leaving_kept}
-use Rattle.hg_base.proofs.Firsts.{IsUpTo, IsBefore}
-use Rattle.hg_base.proofs.Merged.{next-row, joined-to_end}
-use Rattle.hg_base.proofs.Ends.{IsBefore-to, IsUpTo-after, next-later, next-quiet, next-some, stays-before, reached-leaves, apart-back, Apart, joins-stays, or-turned, next-neither, next-lower}
+use Rattle.edge_laws.specs.Edges.{ListedEdge, EdgeList, AreEnds, AreApart, joined, below, joins, chain, next}
+use Rattle.hg_base.specs.Lists.{IsIn}
+use Rattle.edge_laws.proofs.Walks.{IsSame-joined}
+use Rattle.edge_laws.proofs.Sets.{IsIn-joins, IsIn-joins_kept, IsOnChain, IsIn-chain_kept}
+use Rattle.edge_laws.proofs.Next.{IsIn-leaving_kept}
+use Rattle.edge_laws.proofs.Firsts.{IsUpTo, IsBefore}
+use Rattle.edge_laws.proofs.Merged.{next-row, joined-to_end}
+use Rattle.edge_laws.proofs.Ends.{IsBefore-to, IsUpTo-after, next-later, next-quiet, next-some, stays-before, reached-leaves, apart-back, Apart, joins-stays, or-turned, next-neither, next-lower}
 use Rattle.node_region.specs.Pool.{CellPool, cell_at, leaf_of}
 use Rattle.node_region.specs.declared.cell.Cell.{Cell}
 use Rattle.border_climb.specs.Linked.{HasRank, Points, IsCellOf}

@@ -3,18 +3,19 @@ use Rattle.std.proofs.Common.{◌≡◌, ℕ, suc, ◌<◌, ◌≤◌, true, fal
 use Rattle.std.specs.Prelude.{Option, Some, None}
 use Rattle.std.specs.Option.{option_map_or}
 use Rattle.std.proofs.lemmas.Bool.{cases_order, cases_eq, false_from_ne_true, or_left}
-use Rattle.hg_base.specs.Edges.{ListedEdge, EdgeList, IsIn, AreApart, joined, below, joins, next}
-use Rattle.hg_base.specs.Splice.{IsRedundant}
-use Rattle.hg_base.proofs.Walks.{IsSame-joined}
-use Rattle.hg_base.proofs.Sets.{joined_below-more, IsIn-joins_kept}
-use Rattle.hg_base.proofs.Fronts.{apart-one, joined-step_without, joined-first_front}
-use Rattle.hg_base.proofs.Leaving.{leaves, row-same}
-use Rattle.hg_base.proofs.Next.{IsIn-leaving_kept}
-use Rattle.hg_base.proofs.Firsts.{IsUpTo, IsBefore}
-use Rattle.hg_base.proofs.Splice.{next-before}
-use Rattle.hg_base.proofs.Merged.{next-row, joined-to_end}
-use Rattle.hg_base.proofs.Drops.{joins-kept, joins-new, not-Joined}
-use Rattle.hg_base.proofs.Ends.{IsBefore-to, IsUpTo-after, next-later, next-is, next-quiet, stays-before, reached-leaves, apart-back, next-opens, next-passes}
+use Rattle.edge_laws.specs.Edges.{ListedEdge, EdgeList, AreApart, joined, below, joins, next}
+use Rattle.hg_base.specs.Lists.{IsIn}
+use Rattle.edge_laws.specs.Splice.{IsRedundant}
+use Rattle.edge_laws.proofs.Walks.{IsSame-joined}
+use Rattle.edge_laws.proofs.Sets.{joined_below-more, IsIn-joins_kept}
+use Rattle.edge_laws.proofs.Fronts.{apart-one, joined-step_without, joined-first_front}
+use Rattle.edge_laws.proofs.Leaving.{leaves, row-same}
+use Rattle.edge_laws.proofs.Next.{IsIn-leaving_kept}
+use Rattle.edge_laws.proofs.Firsts.{IsUpTo, IsBefore}
+use Rattle.edge_laws.proofs.Splice.{next-before}
+use Rattle.edge_laws.proofs.Merged.{next-row, joined-to_end}
+use Rattle.edge_laws.proofs.Drops.{joins-kept, joins-new, not-Joined}
+use Rattle.edge_laws.proofs.Ends.{IsBefore-to, IsUpTo-after, next-later, next-is, next-quiet, stays-before, reached-leaves, apart-back, next-opens, next-passes}
 use Rattle.node_region.specs.Pool.{CellPool, IsCovered, cell_at, leaf_of}
 use Rattle.node_region.specs.declared.cell.Cell.{Cell}
 use Rattle.border_climb.specs.Linked.{HasRank, Points, IsCellOf, AreLinked}

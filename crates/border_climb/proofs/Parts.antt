@@ -3,14 +3,15 @@ use Rattle.std.proofs.Common.{◌≡◌, ◌≢◌, ℕ, zero, suc, ◌+◌, ◌
 use Rattle.std.specs.Prelude.{Option, Some, None, IfSome}
 use Rattle.std.specs.Option.{option_map_or}
 use Rattle.std.proofs.lemmas.Bool.{cases_Bool}
-use Rattle.hg_base.specs.Edges.{ListedEdge, EdgeList, IsIn, AreApart, Joined, below, components}
-use Rattle.hg_base.specs.Placed.{placed}
+use Rattle.edge_laws.specs.Edges.{ListedEdge, EdgeList, AreApart, Joined, below, components}
+use Rattle.hg_base.specs.Lists.{IsIn}
+use Rattle.edge_laws.specs.Placed.{placed}
 use Rattle.hg_base.specs.declared.graph.PlacedEdge.{PlacedEdge}
 use Rattle.hg_base.specs.declared.graph.Room.{Room}
-use Rattle.hg_base.specs.Saliency.{MeetFirst}
+use Rattle.edge_laws.specs.Saliency.{MeetFirst}
 use Rattle.hg_base.proofs.Pigeons.{pigeonhole}
-use Rattle.hg_base.proofs.Members.{IsIn-below_kept}
-use Rattle.hg_base.proofs.LawForms.{Joined-among}
+use Rattle.edge_laws.proofs.Members.{IsIn-below_kept}
+use Rattle.edge_laws.proofs.LawForms.{Joined-among}
 use Rattle.node_region.specs.Pool.{CellPool, IsPool, count, IsCovered, entry, cell_at, fresh_pool}
 use Rattle.node_region.specs.declared.cell.Cell.{Cell}
 use Rattle.border_climb.specs.declared.given.Given.{Given}

@@ -1,10 +1,11 @@
 -- The seam of two chains and the notes: what climbs and writes leave of them.
 use Rattle.std.proofs.Common.{◌≡◌, ℕ, suc, ◌<◌, ◌≤◌, inl, inr, refl, sym, ◌∙◌, subst, ap, arith, ◌∷◌}
 use Rattle.std.specs.Prelude.{Option, Some, None, IsSome}
-use Rattle.hg_base.specs.Edges.{ListedEdge, EdgeList, IsIn, AreApart, joins, chain, next}
-use Rattle.hg_base.proofs.Sets.{IsIn-joins_kept}
-use Rattle.hg_base.proofs.Next.{IsIn-leaving_kept}
-use Rattle.hg_base.proofs.Ends.{next-is, chain-kept}
+use Rattle.edge_laws.specs.Edges.{ListedEdge, EdgeList, AreApart, joins, chain, next}
+use Rattle.hg_base.specs.Lists.{IsIn}
+use Rattle.edge_laws.proofs.Sets.{IsIn-joins_kept}
+use Rattle.edge_laws.proofs.Next.{IsIn-leaving_kept}
+use Rattle.edge_laws.proofs.Ends.{next-is, chain-kept}
 use Rattle.node_region.specs.Pool.{CellPool, IsCovered, IsUsed, cell_at, leaf_of, turn_of, hint_of, finger_of}
 use Rattle.node_region.specs.declared.cell.Cell.{Cell}
 use Rattle.node_region.specs.declared.cell.Hint.{Hint}

@@ -3,20 +3,21 @@ use Rattle.std.proofs.Common.{◌≡◌, ◌≢◌, ℕ, suc, ◌+◌, ◌-◌, 
 use Rattle.std.specs.Prelude.{Option, Some, None, IsSome, IfSome, filter}
 use Rattle.std.proofs.lemmas.Bool.{cases_Bool, cases_eq, cases_order, false_from_ne_true, le-leb, leb-true}
 use Rattle.std.proofs.lemmas.List.{get_or-set_same, get_or-set_other}
-use Rattle.hg_base.specs.Edges.{ListedEdge, EdgeList, IsIn, AreApart, joined, below, first_edge, next}
-use Rattle.hg_base.specs.Placed.{placed}
+use Rattle.edge_laws.specs.Edges.{ListedEdge, EdgeList, AreApart, joined, below, first_edge, next}
+use Rattle.hg_base.specs.Lists.{IsIn}
+use Rattle.edge_laws.specs.Placed.{placed}
 use Rattle.hg_base.specs.declared.graph.PlacedEdge.{PlacedEdge}
-use Rattle.hg_base.specs.Splice.{IsRedundant}
-use Rattle.hg_base.proofs.Walks.{IsSame-joined, Joined-joined}
-use Rattle.hg_base.proofs.Sets.{IsIn-chain}
-use Rattle.hg_base.proofs.Fronts.{apart-one, joined-meet, MeetBelow}
-use Rattle.hg_base.proofs.Leaving.{leaves, row-same}
-use Rattle.hg_base.proofs.Next.{IsIn-leaving_kept}
-use Rattle.hg_base.proofs.Firsts.{IsBefore}
-use Rattle.hg_base.proofs.Merged.{next-row}
-use Rattle.hg_base.proofs.Meeting.{joined-by}
-use Rattle.hg_base.proofs.Drops.{joins-redundant, chain-redundant}
-use Rattle.hg_base.proofs.Ends.{IsBefore-to, next-is, next-quiet}
+use Rattle.edge_laws.specs.Splice.{IsRedundant}
+use Rattle.edge_laws.proofs.Walks.{IsSame-joined, Joined-joined}
+use Rattle.edge_laws.proofs.Sets.{IsIn-chain}
+use Rattle.edge_laws.proofs.Fronts.{apart-one, joined-meet, MeetBelow}
+use Rattle.edge_laws.proofs.Leaving.{leaves, row-same}
+use Rattle.edge_laws.proofs.Next.{IsIn-leaving_kept}
+use Rattle.edge_laws.proofs.Firsts.{IsBefore}
+use Rattle.edge_laws.proofs.Merged.{next-row}
+use Rattle.edge_laws.proofs.Meeting.{joined-by}
+use Rattle.edge_laws.proofs.Drops.{joins-redundant, chain-redundant}
+use Rattle.edge_laws.proofs.Ends.{IsBefore-to, next-is, next-quiet}
 use Rattle.node_region.specs.Pool.{CellPool, IsPool, IsCovered, IsUsed, leaf_of, turn_of, hint_of, finger_of, next_turn, with_taken}
 use Rattle.node_region.specs.declared.cell.Cell.{Cell}
 use Rattle.node_region.specs.declared.cell.Hint.{Hint}

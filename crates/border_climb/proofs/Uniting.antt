@@ -3,11 +3,12 @@ use Rattle.std.proofs.Common.{◌≡◌, ℕ, zero, suc, ◌+◌, ◌-◌, ◌^�
 use Rattle.std.specs.Prelude.{Option, Some, None, IsSome, filter, nat_lt}
 use Rattle.std.proofs.lemmas.Bool.{cases_lt, cases_Bool, lt-ltb, le-ltb, le-leb, leb-true}
 use Rattle.std.proofs.lemmas.List.{length-map, get_or_append_left, get_or-append_right, get_or_past}
-use Rattle.hg_base.specs.Edges.{ListedEdge, EdgeList, IsIn, joins, chain, first_edge, next}
-use Rattle.hg_base.specs.SideBySide.{SideBySide}
-use Rattle.hg_base.proofs.SideBySide.{chain-inside, chain-outside}
-use Rattle.hg_base.proofs.Components.{IsIn-append_back}
-use Rattle.hg_base.proofs.Sets.{IsIn-joins, IsIn-joins_kept, IsIn-chain_kept}
+use Rattle.edge_laws.specs.Edges.{ListedEdge, EdgeList, joins, chain, first_edge, next}
+use Rattle.hg_base.specs.Lists.{IsIn}
+use Rattle.edge_laws.specs.SideBySide.{SideBySide}
+use Rattle.edge_laws.proofs.SideBySide.{chain-inside, chain-outside, AreApart-front}
+use Rattle.hg_base.proofs.Lists.{IsIn-append_back}
+use Rattle.edge_laws.proofs.Sets.{IsIn-joins, IsIn-joins_kept, IsIn-chain_kept}
 use Rattle.node_region.specs.Pool.{CellPool, IsPool, IsNextTo, count, IsCovered, IsUsed, entry, cell_at, leaf_of, turn_of, appended}
 use Rattle.node_region.specs.declared.cell.Cell.{Cell}
 use Rattle.node_region.specs.declared.cell.Hint.{Hint}
@@ -16,7 +17,6 @@ use Rattle.border_climb.specs.Stands.{PartState, IsMet, Stands}
 use Rattle.border_climb.specs.Linked.{HasRank, Points, IsCellOf, AreLinked}
 use Rattle.border_climb.specs.Notes.{IsLive, IsSound}
 use Rattle.hg_base.specs.declared.graph.PlacedEdge.{PlacedEdge}
-use Rattle.hg_base.proofs.SideBySide.{AreApart-front}
 use Rattle.border_climb.specs.Splicing.{KeepsRange}
 use Rattle.border_climb.specs.Parts.{AreUnited, CanJoin, CanTake, SumsUp, listed}
 use Rattle.border_climb.proofs.Parts.{few-edges}

@@ -4,9 +4,9 @@ use Rattle.std.specs.Prelude.{Option, Some, None}
 use Rattle.std.specs.Option.{option_map_or}
 use Rattle.std.proofs.lemmas.Bool.{cases_Bool, cases_eq, leb-true}
 use Rattle.std.proofs.lemmas.List.{length-set}
-use Rattle.hg_base.specs.Edges.{ListedEdge, EdgeList, next}
-use Rattle.hg_base.proofs.Firsts.{IsBefore}
-use Rattle.hg_base.proofs.Ends.{needed}
+use Rattle.edge_laws.specs.Edges.{ListedEdge, EdgeList, next}
+use Rattle.edge_laws.proofs.Firsts.{IsBefore}
+use Rattle.edge_laws.proofs.Ends.{needed}
 use Rattle.node_region.specs.Pool.{CellPool, entry, cell_at, turn_of, with_given_back}
 use Rattle.node_region.specs.declared.cell.Cell.{Cell}
 use Rattle.node_region.proofs.Entries.{entry-set_same, entry-set_other}

@@ -1,6 +1,7 @@
 -- What "stands for" says of the links: each points at the cell of the edge that comes next.
 use Rattle.std.specs.Prelude.{◌≡◌, ◌≢◌, ℕ, suc, ◌<◌, ◌≤◌, ◌^◌, Option, Some, None}
-use Rattle.hg_base.specs.Edges.{ListedEdge, EdgeList, IsIn, AreApart, joins, next}
+use Rattle.edge_laws.specs.Edges.{ListedEdge, EdgeList, AreApart, joins, next}
+use Rattle.hg_base.specs.Lists.{IsIn}
 use Rattle.node_region.specs.Pool.{CellPool, IsCovered, cell_at, leaf_of}
 use Rattle.node_region.specs.declared.cell.Cell.{Cell}
 

@@ -1,6 +1,7 @@
 -- What is noted at cells and places of cells further up, to climb faster.
 use Rattle.std.specs.Prelude.{◌≡◌, ℕ, ◌<◌, ◌≤◌, ◌-◌, ◌^◌, ◌⊎◌, Some}
-use Rattle.hg_base.specs.Edges.{ListedEdge, EdgeList, IsIn, chain}
+use Rattle.edge_laws.specs.Edges.{ListedEdge, EdgeList, chain}
+use Rattle.hg_base.specs.Lists.{IsIn}
 use Rattle.node_region.specs.Pool.{CellPool, IsCovered, cell_at, leaf_of, IsUsed, turn_of, hint_of, finger_of}
 use Rattle.node_region.specs.declared.cell.Cell.{Cell}
 use Rattle.node_region.specs.declared.cell.Hint.{Hint}

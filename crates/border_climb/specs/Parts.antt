@@ -1,8 +1,8 @@
 -- What the calls of a part promise.
-use Rattle.std.specs.Prelude.{◌≡◌, ◌≢◌, ◌↔◌, ℕ, suc, ◌+◌, ◌≤◌, ◌⊎◌, List, [], ◌++◌, map}
+use Rattle.std.specs.Prelude.{◌≡◌, ◌≢◌, ◌↔◌, ℕ, suc, ◌+◌, ◌≤◌, ◌⊎◌, List, [], ◌++◌, map, Option, None}
 use Rattle.std.specs.Option.{option_map_or}
-use Rattle.std.specs.Prelude.{Option, None}
-use Rattle.hg_base.specs.Edges.{ListedEdge, EdgeList, IsIn, AreApart, Joined, below}
+use Rattle.edge_laws.specs.Edges.{ListedEdge, EdgeList, AreApart, Joined, below}
+use Rattle.hg_base.specs.Lists.{IsIn}
 use Rattle.hg_base.specs.declared.graph.PlacedEdge.{PlacedEdge}
 use Rattle.hg_base.specs.declared.graph.Room.{Room}
 use Rattle.node_region.specs.Pool.{CellPool, count, IsCovered, cell_at, fresh_pool}

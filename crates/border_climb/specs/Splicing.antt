@@ -1,9 +1,10 @@
 -- The states of a splice: the new edge's cell is put in, and the two chains above it are merged.
 use Rattle.std.specs.Prelude.{◌≡◌, ◌≢◌, ℕ, suc, ◌<◌, ◌≤◌, ◌⊎◌, ◌||◌, true, false, ◌∷◌, Option, Some, None, IfSome}
 use Rattle.std.specs.Option.{option_map_or}
-use Rattle.hg_base.specs.Edges.{ListedEdge, EdgeList, IsIn, AreEnds, AreApart, Joined, joined, below, joins, chain, next}
-use Rattle.hg_base.specs.Splice.{ComesAfter, IsRedundant}
-use Rattle.hg_base.specs.Saliency.{MeetFirst}
+use Rattle.edge_laws.specs.Edges.{ListedEdge, EdgeList, AreEnds, AreApart, Joined, joined, below, joins, chain, next}
+use Rattle.hg_base.specs.Lists.{IsIn}
+use Rattle.edge_laws.specs.Splice.{ComesAfter, IsRedundant}
+use Rattle.edge_laws.specs.Saliency.{MeetFirst}
 use Rattle.node_region.specs.Pool.{CellPool, IsPool, count, IsCovered, IsUsed, cell_at, leaf_of}
 use Rattle.node_region.specs.declared.cell.Cell.{Cell}
 use Rattle.border_climb.specs.Linked.{HasRank, Points, IsCellOf, AreLinked, AreBetween}

@@ -1,7 +1,8 @@
 -- When a part stands for an edge list: climbing from each place meets the chain of that place.
 use Rattle.std.specs.Prelude.{◌≡◌, ◌≢◌, ℕ, zero, suc, ◌<◌, ◌^◌, List, [], ◌∷◌, length, Option, Some, None}
-use Rattle.hg_base.specs.Edges.{ListedEdge, EdgeList, IsIn, AreApart, chain}
-use Rattle.hg_base.specs.Placed.{ranks}
+use Rattle.edge_laws.specs.Edges.{ListedEdge, EdgeList, AreApart, chain}
+use Rattle.hg_base.specs.Lists.{IsIn}
+use Rattle.edge_laws.specs.Placed.{ranks}
 use Rattle.node_region.specs.Pool.{CellPool, IsCovered, cell_at, leaf_of, IsUsed}
 use Rattle.node_region.specs.declared.cell.Cell.{Cell}
 

@@ -1,6 +1,6 @@
 ghost use Rattle.std.specs.Prelude.{◌≡◌, ℕ, ◌+◌, ◌*◌, ◌-◌, ◌≤◌, ◌∷◌, ◌++◌, [], length, map};
-ghost use Rattle.hg_base.specs.Edges.{EdgeList};
-ghost use Rattle.hg_base.specs.Placed.{placed};
+ghost use Rattle.edge_laws.specs.Edges.{EdgeList};
+ghost use Rattle.edge_laws.specs.Placed.{placed};
 ghost use Rattle.node_region.specs.Pool.{IsNextTo};
 ghost use Rattle.border_climb.specs.Stands.{Stands};
 ghost use Rattle.border_climb.specs.Splicing.{KeepsRange};

@@ -1,6 +1,6 @@
 ghost use Rattle.std.specs.Prelude.{◌≡◌, ◌≢◌, ℕ, ◌+◌, ◌*◌, ◌-◌, ◌++◌, ◌<◌, ◌≤◌, ◌∷◌, [], length, vec_capacity, Some, IfOk, IfSome};
-ghost use Rattle.hg_base.specs.Edges.{ListedEdge, EdgeList, components};
-ghost use Rattle.hg_base.specs.Placed.{placed};
+ghost use Rattle.edge_laws.specs.Edges.{ListedEdge, EdgeList, components};
+ghost use Rattle.edge_laws.specs.Placed.{placed};
 ghost use Rattle.node_region.specs.Pool.{IsCovered, IsUsed, IsPool, IsNextTo, cell_at, count, leaf_of, appended};
 ghost use Rattle.border_climb.specs.Stands.{Stands, IsNewRank};
 ghost use Rattle.border_climb.specs.Splicing.{rank_of};

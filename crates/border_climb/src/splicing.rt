@@ -1,6 +1,6 @@
 ghost use Rattle.std.specs.Prelude.{◌≡◌, ◌≢◌, ℕ, ◌<◌, ◌^◌, ◌⊎◌, Some, None, IfSome, IsTrue};
-ghost use Rattle.hg_base.specs.Edges.{ListedEdge, EdgeList};
-ghost use Rattle.hg_base.specs.Placed.{placed};
+ghost use Rattle.edge_laws.specs.Edges.{ListedEdge, EdgeList};
+ghost use Rattle.edge_laws.specs.Placed.{placed};
 ghost use Rattle.node_region.specs.Pool.{IsCovered, IsUsed};
 ghost use Rattle.border_climb.specs.Linked.{HasRank};
 ghost use Rattle.border_climb.specs.Notes.{IsSound};

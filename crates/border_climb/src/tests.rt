@@ -1,5 +1,5 @@
 ghost use Rattle.std.specs.Prelude.{◌≡◌, ◌≢◌, ◌<◌};
-ghost use Rattle.hg_base.specs.Edges.{EdgeList};
+ghost use Rattle.edge_laws.specs.Edges.{EdgeList};
 ghost use Rattle.node_region.specs.Pool.{IsCovered, fresh_pool};
 ghost use Rattle.border_climb.specs.Parts.{CanTake, IsLot};
 

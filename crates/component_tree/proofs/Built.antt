@@ -2,11 +2,12 @@
 -- and parents as they are to be.
 use Rattle.std.proofs.Common.{◌≡◌, ◌≢◌, ℕ, ◌+◌, ◌-◌, ◌<◌, ◌≤◌, true, ◌⊎◌, inl, inr, refl, sym, ◌∙◌, subst, ap, arith, List, length, get_or}
 use Rattle.std.proofs.lemmas.Bool.{cases_lt, cases_order, cases_eq, cases_Bool, le-leb, leb-true}
-use Rattle.hg_base.specs.Edges.{EdgeList, IsIn, component, Joined, joined}
-use Rattle.hg_base.specs.Tree.{ParentTree, parent, ancestor, IsAbove}
-use Rattle.hg_base.specs.Saliency.{at_most}
-use Rattle.hg_base.proofs.Sets.{same_test}
-use Rattle.hg_base.proofs.Climbs.{above-on, above-next, above-either, above-parent, ancestor-root}
+use Rattle.edge_laws.specs.Edges.{EdgeList, component, Joined, joined}
+use Rattle.hg_base.specs.Lists.{IsIn}
+use Rattle.tree_laws.specs.Tree.{ParentTree, parent, ancestor, IsAbove}
+use Rattle.edge_laws.specs.Saliency.{at_most}
+use Rattle.edge_laws.proofs.Sets.{same_test}
+use Rattle.tree_laws.proofs.Climbs.{above-on, above-next, above-either, above-parent, ancestor-root}
 use Rattle.component_tree.specs.declared.side.Side.TheVariants.{Min}
 use Rattle.component_tree.specs.declared.nodes.Component.{Component}
 use Rattle.component_tree.specs.Components.{ComponentLists, IsComponentNode, IsComponentTree, IsEarlier, Includes, inside, parent_of, level_of}

@@ -7,14 +7,14 @@ use Rattle.std.proofs.lemmas.Bool.{cases_lt, and_parts, and_from}
 use Rattle.std.proofs.lemmas.List.{length-map}
 use Rattle.hg_base.specs.declared.graph.Edge.{Edge}
 use Rattle.hg_base.specs.Graph.{WeightedGraph, first_end, second_end, weight}
-use Rattle.hg_base.specs.Edges.{ListedEdge, EdgeList, IsIn, AreEnds, AreWithin, IsWalk, component, joined}
-use Rattle.hg_base.specs.Rank.{number_at, rank, listed, ranked}
-use Rattle.hg_base.proofs.Nodes.{slice_get-some, slice_get-mapped}
-use Rattle.hg_base.proofs.Ranks.{number_at-below}
-use Rattle.hg_base.proofs.Ranked.{ranked-at, IsIn-ranked}
-use Rattle.hg_base.proofs.Members.{IsIn-filter, IsIn-kept}
-use Rattle.hg_base.proofs.Walks.{joined-walk, Joined-joined}
-use Rattle.hg_base.proofs.Sets.{same_test}
+use Rattle.edge_laws.specs.Edges.{ListedEdge, EdgeList, AreEnds, AreWithin, IsWalk, component, joined}
+use Rattle.hg_base.specs.Lists.{IsIn}
+use Rattle.edge_laws.specs.Rank.{number_at, rank, listed, ranked}
+use Rattle.hg_base.proofs.Lists.{slice_get-some, slice_get-mapped, IsIn-filter, IsIn-kept}
+use Rattle.edge_laws.proofs.Ranks.{number_at-below}
+use Rattle.edge_laws.proofs.Ranked.{ranked-at, IsIn-ranked}
+use Rattle.edge_laws.proofs.Walks.{joined-walk, Joined-joined}
+use Rattle.edge_laws.proofs.Sets.{same_test}
 use Rattle.component_tree.specs.declared.side.Side.{Side}
 use Rattle.component_tree.specs.declared.side.Side.TheVariants.{Min, Max}
 use Rattle.component_tree.specs.Components.{ComponentLists, IsComponentTree, inside}

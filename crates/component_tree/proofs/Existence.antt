@@ -2,9 +2,9 @@
 use Rattle.std.proofs.Common.{◌≡◌, ℕ, ◌≤◌, refl, subst, List, ◌++◌, map}
 use Rattle.std.specs.List.{range_with_len}
 use Rattle.hg_base.specs.Graph.{WeightedGraph, IsGraph}
-use Rattle.hg_base.specs.Edges.{EdgeList}
-use Rattle.hg_base.specs.Rank.{ranked}
-use Rattle.hg_base.specs.Tree.{ParentTree, tree_of}
+use Rattle.edge_laws.specs.Edges.{EdgeList}
+use Rattle.edge_laws.specs.Rank.{ranked}
+use Rattle.tree_laws.specs.Tree.{ParentTree, tree_of}
 use Rattle.partition_tree.specs.Forest.{IsForest}
 use Rattle.partition_tree.proofs.TreeLemmas.{tree-forest}
 use Rattle.component_tree.specs.declared.side.Side.{Side}

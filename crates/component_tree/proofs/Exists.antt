@@ -7,7 +7,7 @@ use Rattle.std.specs.Cmp.{IsStrictWeakOrder}
 use Rattle.std.proofs.lemmas.Bool.{cases_Bool}
 use Rattle.std.proofs.lemmas.List.{length-replicate}
 use Rattle.std.proofs.lemmas.List.Sorted.{IsPermutation-refl, IsPermutation-sym, IsPermutation-trans, IsPermutation-cons, IsPermutation-middle}
-use Rattle.hg_base.specs.Tree.{ParentTree, parent}
+use Rattle.tree_laws.specs.Tree.{ParentTree, parent}
 use Rattle.partition_tree.specs.Forest.{IsForest}
 use Rattle.partition_tree.proofs.ForestClimbs.{forest-climbs, forest-leaves}
 use Rattle.component_tree.specs.declared.nodes.Component.{Component}

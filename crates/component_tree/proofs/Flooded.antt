@@ -4,14 +4,15 @@ use Rattle.std.specs.Prelude.{replicate}
 use Rattle.std.proofs.lemmas.Bool.{cases_lt}
 use Rattle.std.proofs.lemmas.Option.{unwrap_or-slice_get}
 use Rattle.std.proofs.lemmas.List.{get_or_past, length-map, length-replicate}
-use Rattle.hg_base.specs.Edges.{ListedEdge, EdgeList, IsIn, AreApart, AreWithin, joins}
-use Rattle.hg_base.specs.Tree.{ParentTree, altitude, IsAbove, place, tree_of}
-use Rattle.hg_base.specs.Saliency.{AreByWeight}
-use Rattle.hg_base.proofs.Sets.{IsIn-joins_kept}
-use Rattle.hg_base.proofs.Levels.{level-tree}
-use Rattle.hg_base.proofs.Meeting.{altitude-inner, altitude-leaf}
-use Rattle.hg_base.proofs.Nodes.{length-parents}
-use Rattle.hg_base.proofs.FrontOnce.{leaf_or_made, below-ends}
+use Rattle.edge_laws.specs.Edges.{ListedEdge, EdgeList, AreApart, AreWithin, joins}
+use Rattle.hg_base.specs.Lists.{IsIn}
+use Rattle.tree_laws.specs.Tree.{ParentTree, altitude, IsAbove, place, tree_of}
+use Rattle.edge_laws.specs.Saliency.{AreByWeight}
+use Rattle.edge_laws.proofs.Sets.{IsIn-joins_kept}
+use Rattle.tree_laws.proofs.Levels.{level-tree}
+use Rattle.tree_laws.proofs.Meeting.{altitude-inner, altitude-leaf}
+use Rattle.tree_laws.proofs.Nodes.{length-parents}
+use Rattle.tree_laws.proofs.FrontOnce.{leaf_or_made, below-ends}
 use Rattle.partition_tree.specs.Forest.{IsForest}
 use Rattle.partition_tree.proofs.ForestClimbs.{forest-climbs, forest-leaves}
 use Rattle.partition_tree.proofs.TreeLemmas.{tree-rises}

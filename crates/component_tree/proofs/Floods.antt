@@ -2,12 +2,12 @@
 use Rattle.std.proofs.Common.{◌≡◌, ℕ, zero, suc, ◌<◌, ◌≤◌, true, false, ◌⊎◌, inl, inr, refl, sym, ◌∙◌, subst, ap, arith, List, [], length, get_or}
 use Rattle.std.specs.Prelude.{◌==◌, ◌||◌, not}
 use Rattle.std.proofs.lemmas.Bool.{cases_lt, cases_eq, cases_Bool, eqb-true, eq-eqb, true≢false}
-use Rattle.hg_base.specs.Edges.{EdgeList, AreWithin, Joined}
-use Rattle.hg_base.specs.Tree.{ParentTree, parent, altitude, ancestor, IsAbove}
-use Rattle.hg_base.specs.Levels.{IsClimbing, AltitudesRise, IsLevelTree}
-use Rattle.hg_base.specs.Saliency.{at_most}
-use Rattle.hg_base.proofs.Climbs.{ancestor-root, above-on, above-next, above-either, above-within, above-rises, ancestor-within}
-use Rattle.hg_base.proofs.Weights.{Joined-heavier}
+use Rattle.edge_laws.specs.Edges.{EdgeList, AreWithin, Joined}
+use Rattle.tree_laws.specs.Tree.{ParentTree, parent, altitude, ancestor, IsAbove}
+use Rattle.tree_laws.specs.Levels.{IsClimbing, AltitudesRise, IsLevelTree}
+use Rattle.edge_laws.specs.Saliency.{at_most}
+use Rattle.tree_laws.proofs.Climbs.{ancestor-root, above-on, above-next, above-either, above-within, above-rises, ancestor-within}
+use Rattle.edge_laws.proofs.Weights.{Joined-heavier}
 use Rattle.component_tree.specs.Passes.{is_component}
 use Rattle.component_tree.proofs.Reach.{AreGreaterEnds, first-step, light-value}
 

@@ -3,8 +3,10 @@ use Rattle.std.proofs.Common.{◌≡◌, ℕ, zero, suc, ◌+◌, ◌<◌, ◌�
 use Rattle.std.specs.Prelude.{Some, None, find, filter, fold, max, nat_le, ◌&&◌, ◌||◌, ◌==◌}
 use Rattle.std.specs.List.{range_with_len, flat_map, list_any, list_all}
 use Rattle.std.proofs.lemmas.Bool.{cases_Bool, cases_order, eqb-true, eq-eqb, leb-true, le-leb, and_parts, and_from, or_left, or_right, true≢false}
-use Rattle.hg_base.specs.Edges.{EdgeList, IsIn, component, joined, is_least}
-use Rattle.hg_base.proofs.Members.{IsIn-filter, IsIn-kept}
+use Rattle.edge_laws.specs.Edges.{EdgeList, component, joined}
+use Rattle.hg_base.specs.Lists.{IsIn}
+use Rattle.hg_base.specs.Counting.{is_least}
+use Rattle.hg_base.proofs.Lists.{IsIn-filter, IsIn-kept}
 use Rattle.component_tree.specs.declared.side.Side.TheVariants.{Min}
 use Rattle.component_tree.specs.Components.{inside, Includes}
 use Rattle.component_tree.specs.MinTree.{Head, is_head, heads_at, heads, greatest_value, has, includes}

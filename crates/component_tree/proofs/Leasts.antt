@@ -5,9 +5,9 @@ use Rattle.std.specs.List.{range_with_len}
 use Rattle.std.proofs.lemmas.Bool.{cases_lt, cases_eq}
 use Rattle.std.proofs.lemmas.List.{get_or-set_same, get_or-set_other}
 use Rattle.std.proofs.lemmas.List.FromFn.{length-range_with_len, get_or-range_with_len}
-use Rattle.hg_base.specs.Tree.{ParentTree, parent, ancestor, IsAbove}
-use Rattle.hg_base.specs.Levels.{IsClimbing}
-use Rattle.hg_base.proofs.Climbs.{above-on, ancestor-within}
+use Rattle.tree_laws.specs.Tree.{ParentTree, parent, ancestor, IsAbove}
+use Rattle.tree_laws.specs.Levels.{IsClimbing}
+use Rattle.tree_laws.proofs.Climbs.{above-on, ancestor-within}
 use Rattle.component_tree.specs.Passes.{HasLeaves, AreLeasts}
 
 -- what the nodes before i have sent up

@@ -4,9 +4,9 @@ use Rattle.std.specs.Prelude.{Some, filter, slice_get}
 use Rattle.std.specs.List.{range_with_len}
 use Rattle.std.proofs.lemmas.Bool.{cases_Bool, cases_order}
 use Rattle.std.proofs.lemmas.Option.{get_or_from_slice_get}
-use Rattle.hg_base.specs.Edges.{IsIn}
-use Rattle.hg_base.proofs.Sets.{same_test}
-use Rattle.hg_base.proofs.Members.{IsIn-filter, IsIn-kept}
+use Rattle.hg_base.specs.Lists.{IsIn}
+use Rattle.edge_laws.proofs.Sets.{same_test}
+use Rattle.hg_base.proofs.Lists.{IsIn-filter, IsIn-kept}
 use Rattle.hg_base.proofs.Counts.{count_below-zero}
 use Rattle.hg_base.proofs.Passing.{passing, passing-at}
 

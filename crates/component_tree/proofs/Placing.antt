@@ -2,9 +2,9 @@
 use Rattle.std.proofs.Common.{◌≡◌, ℕ, ◌+◌, ◌<◌, ◌≤◌, true, false, inl, inr, refl, sym, ◌∙◌, subst, ap, arith, List, length, length-set, get_or, set}
 use Rattle.std.proofs.lemmas.Bool.{cases_eq}
 use Rattle.std.proofs.lemmas.List.{get_or-set_same, get_or-set_other}
-use Rattle.hg_base.specs.Tree.{ParentTree, parent}
-use Rattle.hg_base.specs.Levels.{IsClimbing}
-use Rattle.hg_base.proofs.Climbs.{above-on}
+use Rattle.tree_laws.specs.Tree.{ParentTree, parent}
+use Rattle.tree_laws.specs.Levels.{IsClimbing}
+use Rattle.tree_laws.proofs.Climbs.{above-on}
 use Rattle.component_tree.specs.declared.nodes.Component.{Component}
 use Rattle.component_tree.specs.Passes.{is_component, component_at, AreComponents, AreOwnPlaces, ArePlaces, IsNearestPlace}
 use Rattle.component_tree.proofs.Floods.{component-none}

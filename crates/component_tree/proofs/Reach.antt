@@ -3,10 +3,11 @@
 use Rattle.std.proofs.Common.{◌≡◌, ℕ, ◌≤◌, true, ◌⊎◌, inl, inr, ap, arith, [], ◌∷◌}
 use Rattle.std.specs.Prelude.{◌&&◌, nat_le}
 use Rattle.std.proofs.lemmas.Bool.{le-leb, leb-true, and_parts, and_from}
-use Rattle.hg_base.specs.Edges.{ListedEdge, EdgeList, IsIn, Joined, joined}
-use Rattle.hg_base.specs.Saliency.{at_most}
-use Rattle.hg_base.proofs.Members.{IsIn-filter, IsIn-kept}
-use Rattle.hg_base.proofs.Walks.{joined-walk, walk-among, Joined-joined}
+use Rattle.edge_laws.specs.Edges.{ListedEdge, EdgeList, Joined, joined}
+use Rattle.hg_base.specs.Lists.{IsIn}
+use Rattle.edge_laws.specs.Saliency.{at_most}
+use Rattle.hg_base.proofs.Lists.{IsIn-filter, IsIn-kept}
+use Rattle.edge_laws.proofs.Walks.{joined-walk, walk-among, Joined-joined}
 use Rattle.component_tree.specs.declared.side.Side.TheVariants.{Min}
 use Rattle.component_tree.specs.Components.{inside}
 pub use Rattle.component_tree.specs.Passes.{IsGreaterEnd, AreGreaterEnds}

@@ -6,12 +6,12 @@ use Rattle.std.proofs.lemmas.Simd.{map-map}
 use Rattle.std.proofs.lemmas.List.{map-append, length-map, get_or-map, get_or-append-add}
 use Rattle.std.proofs.lemmas.List.FromFn.{length-map-range_with_len, get_or-map-range_with_len}
 use Rattle.hg_base.specs.Graph.{WeightedGraph, IsGraph}
-use Rattle.hg_base.specs.Edges.{EdgeList, AreWithin}
-use Rattle.hg_base.specs.Rank.{ranked}
-use Rattle.hg_base.specs.Tree.{ParentTree, tree_of}
+use Rattle.edge_laws.specs.Edges.{EdgeList, AreWithin}
+use Rattle.edge_laws.specs.Rank.{ranked}
+use Rattle.tree_laws.specs.Tree.{ParentTree, tree_of}
 use Rattle.hg_base.proofs.Leasts.{map-agree}
-use Rattle.hg_base.proofs.Ranked.{AreApart-ranked, AreByWeight-ranked, AreWithin-ranked}
-use Rattle.hg_base.proofs.Levels.{level-tree}
+use Rattle.edge_laws.proofs.Ranked.{AreApart-ranked, AreByWeight-ranked, AreWithin-ranked}
+use Rattle.tree_laws.proofs.Levels.{level-tree}
 use Rattle.partition_tree.specs.Forest.{IsForest}
 use Rattle.component_tree.specs.declared.side.Side.{Side}
 use Rattle.component_tree.specs.declared.side.Side.TheVariants.{Min, Max}

@@ -4,8 +4,8 @@ use Rattle.std.specs.Prelude.{All}
 use Rattle.std.proofs.lemmas.Bool.{cases_lt}
 use Rattle.std.proofs.lemmas.List.{get_or_past}
 use Rattle.hg_base.specs.Graph.{WeightedGraph}
-use Rattle.hg_base.specs.Edges.{EdgeList, AreWithin}
-use Rattle.hg_base.specs.Rank.{ranked}
+use Rattle.edge_laws.specs.Edges.{EdgeList, AreWithin}
+use Rattle.edge_laws.specs.Rank.{ranked}
 use Rattle.component_tree.specs.declared.side.Side.{Side}
 use Rattle.component_tree.specs.declared.side.Side.TheVariants.{Min, Max}
 use Rattle.component_tree.specs.Components.{ComponentLists, IsComponentTree, level_of}

@@ -2,10 +2,11 @@
 use Rattle.std.proofs.Common.{◌≡◌, ℕ, ◌<◌, ◌≤◌, true, inl, inr, sym, subst, ap, arith, List, [], ◌∷◌}
 use Rattle.std.specs.Prelude.{◌&&◌, nat_le}
 use Rattle.std.proofs.lemmas.Bool.{le-leb, leb-true, and_parts, and_from}
-use Rattle.hg_base.specs.Edges.{ListedEdge, EdgeList, IsIn, AreEnds, AreWithin, IsWalk, joined}
-use Rattle.hg_base.proofs.Members.{IsIn-filter, IsIn-kept}
-use Rattle.hg_base.proofs.Walks.{IsSame-joined, joined-ends, joined-walk, walk-among, Joined-joined}
-use Rattle.hg_base.proofs.Sets.{same_test}
+use Rattle.edge_laws.specs.Edges.{ListedEdge, EdgeList, AreEnds, AreWithin, IsWalk, joined}
+use Rattle.hg_base.specs.Lists.{IsIn}
+use Rattle.hg_base.proofs.Lists.{IsIn-filter, IsIn-kept}
+use Rattle.edge_laws.proofs.Walks.{IsSame-joined, joined-ends, joined-walk, walk-among, Joined-joined}
+use Rattle.edge_laws.proofs.Sets.{same_test}
 use Rattle.component_tree.specs.declared.side.Side.TheVariants.{Min}
 use Rattle.component_tree.specs.Components.{inside}
 

@@ -13,9 +13,9 @@ use Rattle.std.proofs.lemmas.List.{length-map}
 use Rattle.std.proofs.lemmas.List.Elements.{Contains-get_or}
 use Rattle.std.proofs.lemmas.List.Sorted.{IsPermutation-sym, Contains-permutation, length_permutation, sorted_far, ranks_by}
 use Rattle.std.proofs.lemmas.Map.Keys.{IsDistinct-IsPermutation, IsDistinct-from_apart, apart_from_distinct}
-use Rattle.hg_base.specs.Edges.{count_below}
-use Rattle.hg_base.specs.Tree.{ParentTree}
-use Rattle.hg_base.proofs.Nodes.{slice_get-mapped}
+use Rattle.hg_base.specs.Counting.{count_below}
+use Rattle.tree_laws.specs.Tree.{ParentTree}
+use Rattle.hg_base.proofs.Lists.{slice_get-mapped}
 use Rattle.hg_base.proofs.Passing.{passing, passing-at, passing-index, length-passing, count_below-most, count_below-rises}
 use Rattle.component_tree.specs.declared.nodes.Component.{Component}
 use Rattle.component_tree.specs.Passes.{is_component, component_at, component_of, IsNoLater, AreComponents}

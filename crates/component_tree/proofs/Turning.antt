@@ -4,8 +4,9 @@ use Rattle.std.specs.Prelude.{IsTrue, nat_le, ◌&&◌}
 use Rattle.std.proofs.lemmas.Bool.{leb-true, le-leb}
 use Rattle.std.proofs.lemmas.List.{get_or-map, length-map}
 use Rattle.std.proofs.lemmas.List.Elements.{filter_agree}
-use Rattle.hg_base.specs.Edges.{ListedEdge, EdgeList, IsIn, component}
-use Rattle.hg_base.proofs.Sets.{same_test}
+use Rattle.edge_laws.specs.Edges.{ListedEdge, EdgeList, component}
+use Rattle.hg_base.specs.Lists.{IsIn}
+use Rattle.edge_laws.proofs.Sets.{same_test}
 use Rattle.component_tree.specs.declared.side.Side.{Side}
 use Rattle.component_tree.specs.declared.side.Side.TheVariants.{Min, Max}
 use Rattle.component_tree.specs.Components.{ComponentLists, IsComponentNode, IsComponentTree, IsEarlier, ComesBefore, inside, is_in_at, parent_of, level_of}

@@ -5,8 +5,9 @@ use Rattle.std.specs.List.{range_with_len}
 use Rattle.std.proofs.lemmas.Bool.{cases_Bool, cases_eq, cases_lt, eqb-true, eq-eqb, leb-true, le-leb, and_parts, and_from, true≢false}
 use Rattle.std.proofs.lemmas.List.{map-append}
 use Rattle.std.proofs.lemmas.List.FromFn.{length-map-range_with_len, get_or-map-range_with_len}
-use Rattle.hg_base.specs.Edges.{EdgeList, IsIn, AreWithin, component, joined}
-use Rattle.hg_base.proofs.Walks.{IsSame-joined}
+use Rattle.edge_laws.specs.Edges.{EdgeList, AreWithin, component, joined}
+use Rattle.hg_base.specs.Lists.{IsIn}
+use Rattle.edge_laws.proofs.Walks.{IsSame-joined}
 use Rattle.hg_base.proofs.Counts.{LeastBelow, least_below, is_least-from, is_least-to}
 use Rattle.hg_base.proofs.Leasts.{map-agree}
 use Rattle.hg_base.proofs.Passing.{passing}

@@ -1,7 +1,8 @@
 -- Component trees (Perret and others, Higra, 2019): the components of a graph's vertices up to each level, for a min
 -- tree, or from each level on, for a max tree. Each vertex x has a value f x.
 use Rattle.std.specs.Prelude.{◌≡◌, ◌≢◌, ℕ, ◌<◌, ◌≤◌, Bool, ◌&&◌, ◌⊎◌, List, length, filter, nat_le, slice_index, IsTrue}
-use Rattle.hg_base.specs.Edges.{EdgeList, IsIn, component}
+use Rattle.edge_laws.specs.Edges.{EdgeList, component}
+use Rattle.hg_base.specs.Lists.{IsIn}
 use Rattle.component_tree.specs.declared.side.Side.{Side}
 use Rattle.component_tree.specs.declared.side.Side.TheVariants.{Min, Max}
 

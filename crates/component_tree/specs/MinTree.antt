@@ -2,8 +2,9 @@
 use Rattle.std.specs.Prelude.{ℕ, suc, ◌+◌, ◌-◌, ◌==◌, Bool, ◌&&◌, List, ◌++◌, length, map, filter, find, fold, max, nat_le, unwrap_or, get_or, slice_index}
 use Rattle.std.specs.List.{range_with_len, flat_map, list_any, list_all}
 use Rattle.hg_base.specs.Graph.{WeightedGraph}
-use Rattle.hg_base.specs.Edges.{EdgeList, joined, component, is_least}
-use Rattle.hg_base.specs.Rank.{ranked}
+use Rattle.edge_laws.specs.Edges.{EdgeList, joined, component}
+use Rattle.hg_base.specs.Counting.{is_least}
+use Rattle.edge_laws.specs.Rank.{ranked}
 use Rattle.component_tree.specs.declared.side.Side.{Side}
 use Rattle.component_tree.specs.declared.side.Side.TheVariants.{Min, Max}
 use Rattle.component_tree.specs.Components.{ComponentLists, inside}

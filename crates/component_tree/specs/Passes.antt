@@ -1,12 +1,13 @@
 -- What the passes over the nodes of a weighed graph's tree give.
 use Rattle.std.specs.Prelude.{◌≡◌, ◌≢◌, ℕ, ◌==◌, ◌+◌, ◌<◌, ◌≤◌, ◌⊎◌, Bool, not, ◌||◌, List, length, map, nat_lt, get_or, IsTrue, if◌then◌else◌}
 use Rattle.std.specs.List.{range_with_len}
-use Rattle.hg_base.specs.Tree.{ParentTree, parent, altitude, IsAbove}
+use Rattle.tree_laws.specs.Tree.{ParentTree, parent, altitude, IsAbove}
 use Rattle.component_tree.specs.declared.side.Side.{Side}
 use Rattle.component_tree.specs.declared.nodes.Component.{Component}
 use Rattle.component_tree.specs.declared.side.Side.TheVariants.{Min}
-use Rattle.hg_base.specs.Edges.{ListedEdge, EdgeList, IsIn, AreApart, AreWithin}
-use Rattle.hg_base.specs.Saliency.{AreByWeight}
+use Rattle.edge_laws.specs.Edges.{ListedEdge, EdgeList, AreApart, AreWithin}
+use Rattle.hg_base.specs.Lists.{IsIn}
+use Rattle.edge_laws.specs.Saliency.{AreByWeight}
 use Rattle.component_tree.specs.Components.{ComponentLists, IsComponentTree}
 use Rattle.component_tree.specs.MinTree.{turned, turned_back, value_at}
 

@@ -1,9 +1,9 @@
 ghost use Rattle.std.specs.Prelude.{◌≡◌, ℕ, ◌≤◌, ◌++◌, IfOk, OnOk, length, map};
 ghost use Rattle.std.specs.List.{range_with_len};
 ghost use Rattle.hg_base.specs.Graph.{WeightedGraph};
-ghost use Rattle.hg_base.specs.Edges.{EdgeList};
-ghost use Rattle.hg_base.specs.Rank.{ranked};
-ghost use Rattle.hg_base.specs.Tree.{altitude, graph_tree, tree_of};
+ghost use Rattle.edge_laws.specs.Edges.{EdgeList};
+ghost use Rattle.edge_laws.specs.Rank.{ranked};
+ghost use Rattle.tree_laws.specs.Tree.{altitude, graph_tree, tree_of};
 ghost use Rattle.component_tree.specs.declared.nodes.Component.{Component};
 ghost use Rattle.component_tree.specs.Components.{IsComponentTree};
 ghost use Rattle.component_tree.specs.MinTree.{turned, value_at, component_tree_of};

@@ -1,7 +1,7 @@
 //! Laws of component trees. Each is the contract of a function that does nothing.
 ghost use Rattle.std.specs.Prelude.{◌≡◌, ℕ, List, length};
 ghost use Rattle.hg_base.specs.Graph.{WeightedGraph, IsGraph};
-ghost use Rattle.hg_base.specs.Rank.{ranked};
+ghost use Rattle.edge_laws.specs.Rank.{ranked};
 ghost use Rattle.component_tree.specs.declared.side.Side.{Side};
 ghost use Rattle.component_tree.specs.Components.{ComponentLists, IsComponentTree};
 ghost use Rattle.component_tree.specs.MinTree.{value_at, component_tree_of};

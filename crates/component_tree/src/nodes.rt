@@ -1,6 +1,6 @@
 ghost use Rattle.std.specs.Prelude.{◌≡◌, ℕ, ◌<◌, ◌≤◌, ◌-◌, ◌++◌, List, length, map, filter, IfOk, OnOk};
 ghost use Rattle.std.specs.List.{range_with_len};
-ghost use Rattle.hg_base.specs.Tree.{altitude};
+ghost use Rattle.tree_laws.specs.Tree.{altitude};
 ghost use Rattle.partition_tree.specs.Forest.{nodes, IsForest};
 ghost use Rattle.component_tree.specs.Passes.{levels_in, is_component, HasLeaves, AreLeasts, component_of, AreComponents, AreOwnPlaces, ArePlaces};
 

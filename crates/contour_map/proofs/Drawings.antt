@@ -2,7 +2,7 @@
 use Rattle.std.proofs.Common.{◌≡◌, ℕ, List, length, ap, ◌∙◌, subst}
 use Rattle.std.proofs.lemmas.List.{length-map}
 use Rattle.hg_base.specs.Graph.{WeightedGraph}
-use Rattle.hg_base.specs.Tree.{ParentTree}
+use Rattle.tree_laws.specs.Tree.{ParentTree}
 use Rattle.pgm_reader.specs.Grid.{edge_between, graph_of, links}
 use Rattle.pgm_reader.specs.Raster.{IsRaster, Raster}
 use Rattle.saliency.specs.Values.{AreLowestAltitudes}

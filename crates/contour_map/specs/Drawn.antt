@@ -1,6 +1,6 @@
 -- The contours of a picture in a tree over its pixels, drawn.
 use Rattle.std.specs.Prelude.{◌≡◌, ℕ, List}
-use Rattle.hg_base.specs.Tree.{ParentTree}
+use Rattle.tree_laws.specs.Tree.{ParentTree}
 use Rattle.pgm_reader.specs.Grid.{graph_of}
 use Rattle.pgm_reader.specs.Raster.{Raster}
 use Rattle.saliency.specs.Values.{AreLowestAltitudes}

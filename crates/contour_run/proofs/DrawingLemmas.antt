@@ -5,7 +5,7 @@ use Rattle.extinction.specs.declared.kind.Kind.{Kind}
 use Rattle.graph_hierarchy.specs.Tilings.{receipt_in}
 use Rattle.graph_hierarchy.specs.declared.tiling.Tiling.TheVariants.{Squares}
 use Rattle.hg_base.specs.Graph.{WeightedGraph, IsGraph}
-use Rattle.hg_base.specs.Tree.{ParentTree}
+use Rattle.tree_laws.specs.Tree.{ParentTree}
 use Rattle.merge_board.specs.Seats.{ReceiptState}
 use Rattle.pgm_reader.specs.Raster.{Raster}
 use Rattle.saliency.specs.Values.{EndsShareRoots}

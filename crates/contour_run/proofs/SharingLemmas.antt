@@ -2,15 +2,16 @@
 use Rattle.std.proofs.Common.{◌≡◌, ℕ, zero, suc, ◌+◌, ◌<◌, ◌≤◌, true, inl, inr, refl, ap, arith, [], ◌∷◌, length}
 use Rattle.std.specs.Prelude.{not}
 use Rattle.std.proofs.lemmas.Bool.{both_ways, cases_Bool, true_from_ne_false}
-use Rattle.hg_base.specs.Edges.{ListedEdge, EdgeList, IsIn, below, is_joining, joined, joins}
+use Rattle.edge_laws.specs.Edges.{ListedEdge, EdgeList, below, is_joining, joined, joins}
+use Rattle.hg_base.specs.Lists.{IsIn}
 use Rattle.hg_base.specs.Graph.{WeightedGraph, IsGraph, first_end, second_end}
-use Rattle.hg_base.specs.Rank.{listed, rank, ranked}
-use Rattle.hg_base.specs.Saliency.{at_most}
-use Rattle.hg_base.proofs.Levels.{level-tree}
-use Rattle.hg_base.proofs.Members.{IsIn-below_kept}
-use Rattle.hg_base.proofs.Ranked.{IsIn-ranked, ends-within}
-use Rattle.hg_base.proofs.Sets.{IsIn-joins, joined-among}
-use Rattle.hg_base.proofs.Walks.{IsSame-joined, Joined-joined, joined-ends}
+use Rattle.edge_laws.specs.Rank.{listed, rank, ranked}
+use Rattle.edge_laws.specs.Saliency.{at_most}
+use Rattle.tree_laws.proofs.Levels.{level-tree}
+use Rattle.edge_laws.proofs.Members.{IsIn-below_kept}
+use Rattle.edge_laws.proofs.Ranked.{IsIn-ranked, ends-within}
+use Rattle.edge_laws.proofs.Sets.{IsIn-joins, joined-among}
+use Rattle.edge_laws.proofs.Walks.{IsSame-joined, Joined-joined, joined-ends}
 use Rattle.extinction.specs.Hierarchy.{by_persistence, hierarchy_edges, hierarchy_of}
 use Rattle.extinction.specs.Persistence.{persistences_of}
 use Rattle.extinction.specs.declared.kind.Kind.{Kind}

@@ -3,7 +3,7 @@ ghost use Rattle.std.specs.Prelude.{◌≡◌, IfOk};
 ghost use Rattle.contour_map.specs.Drawn.{AreContoursIn};
 ghost use Rattle.edge_order.specs.Order.{order_of};
 ghost use Rattle.extinction.specs.Hierarchy.{hierarchy_of};
-ghost use Rattle.hg_base.specs.Tree.{graph_tree};
+ghost use Rattle.tree_laws.specs.Tree.{graph_tree};
 ghost use Rattle.pgm_reader.specs.Grid as grid;
 ghost use Rattle.higra_cli.specs.Inputs.{graph_of};
 ghost use Rattle.graph_hierarchy.specs.Hierarchies.{IsTreeOf};

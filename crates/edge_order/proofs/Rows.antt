@@ -13,8 +13,8 @@ use Rattle.std.proofs.lemmas.Option.{slice_get-get_or, slice_get_read, get_or_fr
 use Rattle.std.proofs.lemmas.List.{get_or-map, length-map, take_more}
 use Rattle.std.proofs.lemmas.List.FromFn.{length-map-range_with_len, get_or-map-range_with_len}
 use Rattle.hg_base.specs.Graph.{WeightedGraph, JoinsTwo, weight, with_unit_areas}
-use Rattle.hg_base.specs.Edges.{ListedEdge}
-use Rattle.hg_base.specs.Rank.{number_at, rank, listed, ranked}
+use Rattle.edge_laws.specs.Edges.{ListedEdge}
+use Rattle.edge_laws.specs.Rank.{number_at, rank, listed, ranked}
 use Rattle.hg_base.specs.declared.graph.Edge.{Edge}
 use Rattle.edge_order.specs.Keys.{unpacked}
 use Rattle.edge_order.specs.Order.{order_of, number_at_rank}
@@ -22,7 +22,7 @@ use Rattle.edge_order.specs.OrderFields.{graph_in, order_in, IsTable}
 use Rattle.edge_order.specs.Tables.{key, sorted_keys_of}
 use Rattle.edge_order.specs.declared.key.Key.{Key}
 use Rattle.edge_order.specs.declared.order.Order.TheInside.{Inside}
-use Rattle.hg_base.proofs.Ranks.{rank-below, number_at-rank, number_at-below, rank-number_at}
+use Rattle.edge_laws.proofs.Ranks.{rank-below, number_at-rank, number_at-below, rank-number_at}
 
 -- numbers compare as equal exactly where they are
 same-cmp : (n : ℕ) → nat_cmp n n ≡ Equal

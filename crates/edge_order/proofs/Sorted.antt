@@ -14,10 +14,10 @@ use Rattle.std.proofs.lemmas.List.Folds.{fold-map}
 use Rattle.std.proofs.lemmas.List.Edits.{swapped_from_swap, length-swap}
 use Rattle.std.proofs.lemmas.List.Sorted.{IsPermutation-keeps, IsPermutation-sym, Contains-permutation, sum_by-IsPermutation, length_permutation, sorted_far, ranks_by}
 use Rattle.hg_base.specs.Graph.{WeightedGraph, weight}
-use Rattle.hg_base.specs.Rank.{numbers, comes_before, rank, number_at}
+use Rattle.edge_laws.specs.Rank.{numbers, comes_before, rank, number_at}
 use Rattle.edge_order.specs.Tables.{key, keys_of, sorted_keys_of}
 use Rattle.hg_base.proofs.CountBy.{count_by-is}
-use Rattle.hg_base.proofs.Ranks.{number_at-rank}
+use Rattle.edge_laws.proofs.Ranks.{number_at-rank}
 
 -- the order of keys: by weight, then by number
 abbrev pub key_cmp : ℕ × ℕ → ℕ × ℕ → Ordering

@@ -2,8 +2,8 @@
 use Rattle.std.specs.Prelude.{ℕ, slice_get}
 use Rattle.std.specs.Option.{option_map_or}
 use Rattle.hg_base.specs.Graph.{WeightedGraph}
-use Rattle.hg_base.specs.Edges.{ListedEdge, EdgeList}
-use Rattle.hg_base.specs.Rank.{ranked}
+use Rattle.edge_laws.specs.Edges.{ListedEdge, EdgeList}
+use Rattle.edge_laws.specs.Rank.{ranked}
 use Rattle.hg_base.specs.declared.graph.Edge.{Edge}
 use Rattle.hg_base.specs.declared.graph.RankedEdge.{RankedEdge}
 

@@ -3,7 +3,7 @@ use Rattle.std.specs.Prelude.{ℕ, List, map}
 use Rattle.std.specs.List.Sorted.{IsSortedByKey}
 use Rattle.std.specs.Ordering.{nat_cmp}
 use Rattle.hg_base.specs.Graph.{WeightedGraph, weight}
-use Rattle.hg_base.specs.Rank.{numbers, number_at}
+use Rattle.edge_laws.specs.Rank.{numbers, number_at}
 use Rattle.edge_order.specs.declared.key.Key.{Key}
 
 -- the key of edge number e

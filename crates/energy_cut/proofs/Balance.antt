@@ -2,8 +2,8 @@
 use Rattle.std.proofs.Common.{◌≡◌, ℕ, zero, suc, ◌+◌, ◌-◌, ◌<◌, ◌≤◌, Bool, true, false, inl, inr, refl, sym, ◌∙◌, ap, arith, length}
 use Rattle.std.specs.Prelude.{◌==◌, ◌&&◌, ◌||◌, not, nat_le}
 use Rattle.std.proofs.lemmas.Bool.{cases_Bool, cases_eq, cases_lt, and_from, and_right, or_left, or_right, eq-eqb, ne_eqb, le-leb, lt-leb}
-use Rattle.hg_base.specs.Tree.{ParentTree, parent}
-use Rattle.hg_base.specs.Levels.{IsClimbing}
+use Rattle.tree_laws.specs.Tree.{ParentTree, parent}
+use Rattle.tree_laws.specs.Levels.{IsClimbing}
 use Rattle.partition_tree.specs.Children.{is_child}
 use Rattle.energy_cut.proofs.Totals.{total, total-pass, total-skip, total-agree, total-none, total-split, total-cut, IsSplit}
 use Rattle.energy_cut.proofs.Covers.{free, free-root, free-next}

@@ -3,12 +3,12 @@ use Rattle.std.proofs.Common.{◌≡◌, ℕ, ◌+◌, ◌-◌, ◌<◌, ◌≤�
 use Rattle.std.specs.Prelude.{◌&&◌, not, min, nat_lt}
 use Rattle.std.specs.List.{list_any}
 use Rattle.std.proofs.lemmas.Bool.{cases_eq, cases_lt, and_parts, and_from, eqb-true, eq-eqb, false_from_ne_true, both_ways, cond-true, cond-false, lt-ltb, le-ltb}
-use Rattle.hg_base.specs.Edges.{IsIn}
-use Rattle.hg_base.specs.Tree.{ParentTree, IsAbove}
-use Rattle.hg_base.specs.Levels.{is_above}
-use Rattle.hg_base.proofs.Climbs.{above-on, above-within}
+use Rattle.hg_base.specs.Lists.{IsIn}
+use Rattle.tree_laws.specs.Tree.{ParentTree, IsAbove}
+use Rattle.tree_laws.specs.Levels.{is_above}
+use Rattle.tree_laws.proofs.Climbs.{above-on, above-within}
 use Rattle.hg_base.proofs.Passing.{passing}
-use Rattle.hg_base.proofs.Tops.{is_above-from, is_above-to}
+use Rattle.tree_laws.proofs.Tops.{is_above-from, is_above-to}
 use Rattle.partition_tree.specs.Forest.{IsForest}
 use Rattle.partition_tree.specs.Children.{is_child}
 use Rattle.partition_tree.proofs.ForestClimbs.{forest-climbs, forest-leaves}

@@ -2,11 +2,12 @@
 use Rattle.std.proofs.Common.{◌≡◌, ℕ, ◌<◌, true, arith, List, [], refl, length}
 use Rattle.std.specs.Prelude.{◌&&◌}
 use Rattle.std.proofs.lemmas.Bool.{and_parts, and_from}
-use Rattle.hg_base.specs.Edges.{EdgeList, IsIn, AreApart, AreWithin}
-use Rattle.hg_base.specs.Tree.{ParentTree, IsAbove, tree_of}
-use Rattle.hg_base.specs.Levels.{is_above}
-use Rattle.hg_base.proofs.FrontOnce.{front-tree}
-use Rattle.hg_base.proofs.Tops.{is_above-from, is_above-to}
+use Rattle.edge_laws.specs.Edges.{EdgeList, AreApart, AreWithin}
+use Rattle.hg_base.specs.Lists.{IsIn}
+use Rattle.tree_laws.specs.Tree.{ParentTree, IsAbove, tree_of}
+use Rattle.tree_laws.specs.Levels.{is_above}
+use Rattle.tree_laws.proofs.FrontOnce.{front-tree}
+use Rattle.tree_laws.proofs.Tops.{is_above-from, is_above-to}
 use Rattle.partition_tree.specs.Forest.{IsForest}
 use Rattle.partition_tree.proofs.ForestClimbs.{forest-climbs, forest-leaves}
 use Rattle.energy_cut.specs.Cuts.{IsLeastCut, least_cut_of}

@@ -3,11 +3,11 @@ use Rattle.std.proofs.Common.{◌≡◌, ℕ, zero, suc, ◌+◌, ◌<◌, ◌�
 use Rattle.std.specs.Prelude.{◌==◌, ◌&&◌, not}
 use Rattle.std.specs.List.{range_with_len, list_any}
 use Rattle.std.proofs.lemmas.Bool.{cases_Bool, cases_eq, and_parts, and_from, eq-eqb, ne_eqb, false_from_ne_true, both_ways}
-use Rattle.hg_base.specs.Tree.{ParentTree, parent, IsAbove}
-use Rattle.hg_base.specs.Levels.{IsClimbing, is_above}
-use Rattle.hg_base.proofs.Climbs.{ancestor-root, above-on, above-next, above-either, above-within, above-rises}
-use Rattle.hg_base.proofs.Sets.{same_test}
-use Rattle.hg_base.proofs.Tops.{is_above-from, is_above-to}
+use Rattle.tree_laws.specs.Tree.{ParentTree, parent, IsAbove}
+use Rattle.tree_laws.specs.Levels.{IsClimbing, is_above}
+use Rattle.tree_laws.proofs.Climbs.{ancestor-root, above-on, above-next, above-either, above-within, above-rises}
+use Rattle.edge_laws.proofs.Sets.{same_test}
+use Rattle.tree_laws.proofs.Tops.{is_above-from, is_above-to}
 use Rattle.energy_cut.proofs.Lists.{any-from, any-to, range-from}
 
 -- another node that passes is above j

@@ -5,13 +5,13 @@ use Rattle.std.specs.List.{range_with_len, list_any}
 use Rattle.std.specs.List.Sorted.{IsStrictlyIncreasing}
 use Rattle.std.proofs.lemmas.Bool.{cases_Bool, cases_lt, or_cases, or_left, or_right, and_parts, and_from, eqb-true, eq-eqb, false_from_ne_true, both_ways, lt-ltb, ltb-true}
 use Rattle.std.proofs.lemmas.List.Sums.{sum_by-cons}
-use Rattle.hg_base.specs.Edges.{IsIn}
-use Rattle.hg_base.specs.Tree.{ParentTree, IsAbove}
-use Rattle.hg_base.specs.Levels.{is_above}
-use Rattle.hg_base.proofs.Climbs.{above-on, above-same}
-use Rattle.hg_base.proofs.Members.{IsIn-filter, IsIn-kept}
-use Rattle.hg_base.proofs.Sets.{same_test}
-use Rattle.hg_base.proofs.Tops.{is_above-from, is_above-to}
+use Rattle.hg_base.specs.Lists.{IsIn}
+use Rattle.tree_laws.specs.Tree.{ParentTree, IsAbove}
+use Rattle.tree_laws.specs.Levels.{is_above}
+use Rattle.tree_laws.proofs.Climbs.{above-on, above-same}
+use Rattle.hg_base.proofs.Lists.{IsIn-filter, IsIn-kept}
+use Rattle.edge_laws.proofs.Sets.{same_test}
+use Rattle.tree_laws.proofs.Tops.{is_above-from, is_above-to}
 use Rattle.partition_tree.specs.Forest.{IsForest}
 use Rattle.partition_tree.proofs.ForestClimbs.{forest-climbs, forest-leaves}
 use Rattle.energy_cut.specs.Cuts.{IsCut, IsLeastCut, IsCoarser, cut_energy, sublists, leaf_numbers, is_cut, cuts, is_coarser, is_least_cut, least_cut_of}

@@ -4,10 +4,10 @@ use Rattle.std.specs.Prelude.{◌==◌, filter, find, unwrap_or}
 use Rattle.std.specs.List.{range_with_len, list_any, list_all}
 use Rattle.std.specs.List.Sorted.{IsStrictlyIncreasing}
 use Rattle.std.proofs.lemmas.Bool.{cases_Bool, cases_eq, or_cases, or_left, or_right, and_parts, and_from, false≢true, eq-eqb, eqb-true, false_from_ne_true, cond-true, cond-false}
-use Rattle.hg_base.specs.Edges.{IsIn}
-use Rattle.hg_base.proofs.Members.{IsIn-filter, IsIn-kept}
+use Rattle.hg_base.specs.Lists.{IsIn}
+use Rattle.hg_base.proofs.Lists.{IsIn-filter, IsIn-kept}
 use Rattle.hg_base.proofs.Passing.{passing}
-use Rattle.hg_base.proofs.Sets.{same_test}
+use Rattle.edge_laws.proofs.Sets.{same_test}
 
 -- an element that passes
 pub any-from : {X : Type 0} (p : X → Bool) (x : X) (xs : List X) → IsIn x xs → p x ≡ true → list_any p xs ≡ true

@@ -4,10 +4,10 @@ use Rattle.std.specs.Prelude.{Option, None, IfSome, filter}
 use Rattle.std.specs.List.{range_with_len}
 use Rattle.std.proofs.lemmas.List.{get_or-set_other, get_or-take, length-take-le, drop_all, take_all}
 use Rattle.std.proofs.Math.Nat.{mul-le-mul_right}
-use Rattle.hg_base.specs.Edges.{count_below}
+use Rattle.hg_base.specs.Counting.{count_below}
 use Rattle.hg_base.specs.Labels.{Labelling, IsLabelling, labelling}
 use Rattle.hg_base.specs.Numbering.{is_head, key_label}
-use Rattle.hg_base.specs.Tree.{ParentTree, parent}
+use Rattle.tree_laws.specs.Tree.{ParentTree, parent}
 use Rattle.hg_base.proofs.Passing.{length-passing, count_below-most}
 use Rattle.partition_tree.specs.Forest.{IsForest}
 use Rattle.partition_tree.proofs.ForestClimbs.{forest-leaves}

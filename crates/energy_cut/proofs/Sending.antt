@@ -4,9 +4,9 @@ use Rattle.std.specs.Prelude.{replicate, Option, Some, None}
 use Rattle.std.specs.Option.{is_some}
 use Rattle.std.proofs.lemmas.Bool.{cases_eq, cases_Bool, both_ways}
 use Rattle.std.proofs.lemmas.List.{get_or-set_same, get_or-set_other, length-replicate}
-use Rattle.hg_base.specs.Tree.{ParentTree, parent, IsAbove, ancestor}
-use Rattle.hg_base.specs.Levels.{IsClimbing}
-use Rattle.hg_base.proofs.Climbs.{ancestor-root, above-on, above-next}
+use Rattle.tree_laws.specs.Tree.{ParentTree, parent, IsAbove, ancestor}
+use Rattle.tree_laws.specs.Levels.{IsClimbing}
+use Rattle.tree_laws.proofs.Climbs.{ancestor-root, above-on, above-next}
 use Rattle.energy_cut.specs.Passes.{IsHighest, AreHighest}
 
 -- the top of node i is right

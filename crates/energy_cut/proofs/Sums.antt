@@ -7,7 +7,7 @@ use Rattle.std.proofs.lemmas.List.FromFn.{length-map-range_with_len, get_or-map-
 use Rattle.std.proofs.lemmas.List.Sums.{sum_by-le, sum_by_more}
 use Rattle.std.proofs.lemmas.Nat.{mul-le}
 use Rattle.std.proofs.Math.Nat.{mul-le-mul_right}
-use Rattle.hg_base.specs.Tree.{ParentTree, altitude}
+use Rattle.tree_laws.specs.Tree.{ParentTree, altitude}
 use Rattle.hg_base.proofs.Passing.{length-passing, count_below-most}
 use Rattle.partition_tree.specs.Forest.{nodes, IsForest}
 use Rattle.energy_cut.specs.Cuts.{IsCut, cut_energy}

@@ -1,6 +1,6 @@
 -- A small forest of which an inner node is above no leaf.
 use Rattle.std.proofs.Common.{◌≡◌, ℕ, zero, suc, ◌<◌, refl, arith, [], ◌∷◌}
-use Rattle.hg_base.specs.Tree.{parent, altitude}
+use Rattle.tree_laws.specs.Tree.{parent, altitude}
 use Rattle.partition_tree.specs.Forest.{IsForest, lists_of}
 
 -- two leaves, a root, and a child of it without leaves

@@ -5,14 +5,15 @@ use Rattle.std.specs.Option.{option_map_or}
 use Rattle.std.specs.List.{range_with_len}
 use Rattle.std.proofs.lemmas.Bool.{and_parts, and_from, eqb-true, eq-eqb}
 use Rattle.std.proofs.lemmas.List.{get_or_default}
-use Rattle.hg_base.specs.Edges.{IsIn, count_below}
+use Rattle.hg_base.specs.Lists.{IsIn}
+use Rattle.hg_base.specs.Counting.{count_below}
 use Rattle.hg_base.specs.Numbering.{is_head, same_key, key_label}
-use Rattle.hg_base.specs.Tree.{ParentTree, IsAbove}
-use Rattle.hg_base.specs.Levels.{is_above}
-use Rattle.hg_base.proofs.Climbs.{above-within}
+use Rattle.tree_laws.specs.Tree.{ParentTree, IsAbove}
+use Rattle.tree_laws.specs.Levels.{is_above}
+use Rattle.tree_laws.proofs.Climbs.{above-within}
 use Rattle.hg_base.proofs.KeyClasses.{same_key-from, same_key-to, classing-of_keys, AreLabels, labels-by_keys}
-use Rattle.hg_base.proofs.Sets.{same_test}
-use Rattle.hg_base.proofs.Tops.{is_above-from, is_above-to}
+use Rattle.edge_laws.proofs.Sets.{same_test}
+use Rattle.tree_laws.proofs.Tops.{is_above-from, is_above-to}
 use Rattle.partition_tree.specs.Forest.{IsForest}
 use Rattle.partition_tree.proofs.ForestClimbs.{forest-climbs, forest-leaves}
 use Rattle.energy_cut.specs.Passes.{IsHighest, AreTops, keeps, is_key}

@@ -2,9 +2,9 @@
 use Rattle.std.specs.Prelude.{◌≡◌, ◌==◌, ℕ, ◌<◌, ◌≤◌, Bool, ◌&&◌, ◌||◌, List, [], ◌∷◌, ◌++◌, map, filter, find, count_by, nat_lt, slice_index, unwrap_or}
 use Rattle.std.specs.List.{range_with_len, list_all, list_any, sum_by}
 use Rattle.std.specs.List.Sorted.{IsStrictlyIncreasing}
-use Rattle.hg_base.specs.Edges.{IsIn}
-use Rattle.hg_base.specs.Tree.{ParentTree, IsAbove}
-use Rattle.hg_base.specs.Levels.{is_above}
+use Rattle.hg_base.specs.Lists.{IsIn}
+use Rattle.tree_laws.specs.Tree.{ParentTree, IsAbove}
+use Rattle.tree_laws.specs.Levels.{is_above}
 use Rattle.partition_tree.specs.Forest.{nodes}
 
 -- the path of x has exactly one node of the list

@@ -1,7 +1,7 @@
 -- Energies of the nodes of a tree.
 use Rattle.std.specs.Prelude.{ℕ, ◌+◌, ◌*◌, List, map, slice_index}
 use Rattle.std.specs.List.{range_with_len}
-use Rattle.hg_base.specs.Tree.{ParentTree, altitude}
+use Rattle.tree_laws.specs.Tree.{ParentTree, altitude}
 use Rattle.partition_tree.specs.Forest.{nodes}
 
 -- the energy of node i: what each region costs, and the node's area times its altitude

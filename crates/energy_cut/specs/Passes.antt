@@ -2,7 +2,7 @@
 use Rattle.std.specs.Prelude.{◌≡◌, ◌==◌, ℕ, ◌<◌, Bool, true, false, List, length, filter, get_or, min, nat_lt, slice_index, Option, Some, None, if◌then◌else◌}
 use Rattle.std.specs.List.{range_with_len, list_any, sum_by}
 use Rattle.std.specs.Option.{option_map_or}
-use Rattle.hg_base.specs.Tree.{ParentTree, IsAbove}
+use Rattle.tree_laws.specs.Tree.{ParentTree, IsAbove}
 use Rattle.partition_tree.specs.Forest.{nodes}
 use Rattle.partition_tree.specs.Children.{is_child}
 

@@ -2,8 +2,8 @@
 use Rattle.std.specs.Prelude.{ℕ, Bool, ◌&&◌, List}
 use Rattle.std.specs.List.{list_any}
 use Rattle.hg_base.specs.Labels.{Labelling, labelling}
-use Rattle.hg_base.specs.Tree.{ParentTree}
-use Rattle.hg_base.specs.Levels.{is_above}
+use Rattle.tree_laws.specs.Tree.{ParentTree}
+use Rattle.tree_laws.specs.Levels.{is_above}
 use Rattle.energy_cut.specs.Cuts.{cut_energy, least_cut_of}
 
 -- a node of the cut is above both leaves

@@ -1,7 +1,8 @@
 //! Laws of cuts. Each is the contract of a function that does nothing.
 ghost use Rattle.std.specs.Prelude.{◌≡◌, ◌↔◌, ℕ, ◌<◌, ◌≤◌, ◌^◌, All, List, true};
-ghost use Rattle.hg_base.specs.Edges.{EdgeList, IsIn, AreApart, AreWithin};
-ghost use Rattle.hg_base.specs.Tree.{ParentTree, IsAbove, altitude, tree_of};
+ghost use Rattle.edge_laws.specs.Edges.{EdgeList, AreApart, AreWithin};
+ghost use Rattle.hg_base.specs.Lists.{IsIn};
+ghost use Rattle.tree_laws.specs.Tree.{ParentTree, IsAbove, altitude, tree_of};
 ghost use Rattle.partition_tree.specs.Forest.{nodes, IsForest};
 ghost use Rattle.energy_cut.specs.Cuts.{IsCut, IsLeastCut, cut_energy, cuts, least_cut_of};
 ghost use Rattle.energy_cut.specs.Energies.{energies_of};

@@ -1,5 +1,5 @@
 ghost use Rattle.std.specs.Prelude.{◌≡◌, ℕ, ◌<◌, ◌^◌, All, IfOk, true, vec_len};
-ghost use Rattle.hg_base.specs.Tree.{altitude};
+ghost use Rattle.tree_laws.specs.Tree.{altitude};
 ghost use Rattle.partition_tree.specs.Forest.{nodes};
 ghost use Rattle.partition_tree.specs.Ranked.{IsRankedList};
 

@@ -3,21 +3,24 @@ use Rattle.std.proofs.Common.{◌≡◌, ◌≢◌, ℕ, suc, ◌-◌, ◌<◌, 
 use Rattle.std.specs.Prelude.{nat_le}
 use Rattle.std.proofs.lemmas.Bool.{cases_lt, cases_order, and_parts, cond-true, cond-false, true_from_ne_false}
 use Rattle.hg_base.specs.Graph.{WeightedGraph, IsGraph, first_end, second_end}
-use Rattle.hg_base.specs.Edges.{ListedEdge, EdgeList, IsIn, Joined, below, joins, count_below, is_least}
+use Rattle.edge_laws.specs.Edges.{ListedEdge, EdgeList, Joined, below, joins}
+use Rattle.hg_base.specs.Lists.{IsIn}
+use Rattle.hg_base.specs.Counting.{count_below, is_least}
 use Rattle.hg_base.specs.Labels.{IsLabel, least_of}
-use Rattle.hg_base.specs.Rank.{ranked}
-use Rattle.hg_base.specs.Saliency.{at_most}
-use Rattle.hg_base.specs.Tree.{ParentTree, parent, altitude, IsAbove, graph_tree}
-use Rattle.hg_base.proofs.Climbs.{above-on, above-either, above-within, above-same}
+use Rattle.edge_laws.specs.Rank.{ranked}
+use Rattle.edge_laws.specs.Saliency.{at_most}
+use Rattle.tree_laws.specs.Tree.{ParentTree, parent, altitude, IsAbove, graph_tree}
+use Rattle.tree_laws.proofs.Climbs.{above-on, above-either, above-within, above-same}
 use Rattle.hg_base.proofs.Counts.{is_least-to}
-use Rattle.hg_base.proofs.Drops.{holds}
-use Rattle.hg_base.proofs.FrontOnce.{ends-apart}
-use Rattle.hg_base.proofs.Fronts.{apart-one}
+use Rattle.edge_laws.proofs.Drops.{holds}
+use Rattle.tree_laws.proofs.FrontOnce.{ends-apart}
+use Rattle.edge_laws.proofs.Fronts.{apart-one}
 use Rattle.hg_base.proofs.Leasts.{least_of-fresh}
-use Rattle.hg_base.proofs.Members.{IsIn-below, IsIn-kept}
-use Rattle.hg_base.proofs.Ranked.{edge-there, ends-within}
-use Rattle.hg_base.proofs.Sets.{IsIn-joins_kept, joined-among}
-use Rattle.hg_base.proofs.Tops.{top_found, top-parent}
+use Rattle.edge_laws.proofs.Members.{IsIn-below}
+use Rattle.hg_base.proofs.Lists.{IsIn-kept}
+use Rattle.edge_laws.proofs.Ranked.{edge-there, ends-within}
+use Rattle.edge_laws.proofs.Sets.{IsIn-joins_kept, joined-among}
+use Rattle.tree_laws.proofs.Tops.{top_found, top-parent}
 use Rattle.partition_tree.proofs.ChildLemmas.{count-nth}
 use Rattle.watershed_cut.specs.Minima.{level, IsMinimumEdge, InMinimum}
 use Rattle.watershed_cut.specs.MinimumTests.{in_minimum, same_minimum, is_head, minimum_count, vertex_label}

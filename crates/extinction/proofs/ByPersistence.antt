@@ -1,12 +1,13 @@
 -- The list of joining edges by persistence: different ranks, weights that don't fall, and the same joining edges.
 use Rattle.std.proofs.Common.{◌≡◌, ℕ, ◌<◌, inl, inr, refl, sym, ◌∙◌, ap, subst, arith, List, [], ◌∷◌, length, get_or, map}
 use Rattle.std.proofs.lemmas.Option.{slice_get_within}
-use Rattle.hg_base.specs.Edges.{ListedEdge, EdgeList, IsIn, AreApart, AreWithin, joins}
-use Rattle.hg_base.specs.Saliency.{AreByWeight}
-use Rattle.hg_base.specs.Tree.{place}
-use Rattle.hg_base.proofs.Members.{IsRising}
-use Rattle.hg_base.proofs.Nodes.{joins-at, place-one}
-use Rattle.hg_base.proofs.Sets.{IsRising-joins, IsIn-joins_kept}
+use Rattle.edge_laws.specs.Edges.{ListedEdge, EdgeList, AreApart, AreWithin, joins}
+use Rattle.hg_base.specs.Lists.{IsIn}
+use Rattle.edge_laws.specs.Saliency.{AreByWeight}
+use Rattle.tree_laws.specs.Tree.{place}
+use Rattle.edge_laws.proofs.Members.{IsRising}
+use Rattle.tree_laws.proofs.Nodes.{joins-at, place-one}
+use Rattle.edge_laws.proofs.Sets.{IsRising-joins, IsIn-joins_kept}
 use Rattle.watershed_cut.proofs.Star.{in-map}
 use Rattle.extinction.specs.Hierarchy.{turn, by_persistence, hierarchy_edges}
 use Rattle.extinction.proofs.Turns.{turn-one, turn-rises}

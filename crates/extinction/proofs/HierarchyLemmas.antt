@@ -7,13 +7,15 @@ use Rattle.std.proofs.lemmas.List.{length-map}
 use Rattle.std.proofs.lemmas.List.FromFn.{get_or-map-range_with_len, length-map-range_with_len, map-range_with_len_more}
 use Rattle.std.proofs.lemmas.Option.{get_or_from_slice_get}
 use Rattle.hg_base.specs.Graph.{WeightedGraph}
-use Rattle.hg_base.specs.Edges.{ListedEdge, EdgeList, IsIn, IsSameSet, AreApart, below, joins, next}
-use Rattle.hg_base.specs.Rank.{ranked, number_at}
-use Rattle.hg_base.specs.Tree.{place, node_or, tree_of}
+use Rattle.edge_laws.specs.Edges.{ListedEdge, EdgeList, IsSameSet, AreApart, below, joins, next}
+use Rattle.hg_base.specs.Lists.{IsIn}
+use Rattle.edge_laws.specs.Rank.{ranked, number_at}
+use Rattle.tree_laws.specs.Tree.{place, node_or, tree_of}
 use Rattle.hg_base.proofs.Leasts.{map-agree}
-use Rattle.hg_base.proofs.Nodes.{slice_get-some, slice_get-mapped, joins-index}
-use Rattle.hg_base.proofs.Ranked.{AreApart-ranked}
-use Rattle.hg_base.proofs.Sets.{joins-same, next-same}
+use Rattle.hg_base.proofs.Lists.{slice_get-some, slice_get-mapped}
+use Rattle.tree_laws.proofs.Nodes.{joins-index}
+use Rattle.edge_laws.proofs.Ranked.{AreApart-ranked}
+use Rattle.edge_laws.proofs.Sets.{joins-same, next-same}
 use Rattle.edge_order.specs.Tables.{key, sorted_keys_of}
 use Rattle.partition_tree.specs.declared.list.Ranked.{Ranked}
 use Rattle.partition_tree.specs.Ranked.{JoinsTwo, IsRankedList, edge_at, edges_of}

@@ -3,13 +3,13 @@ use Rattle.std.proofs.Common.{◌≡◌, ℕ, zero, suc, ◌+◌, ◌<◌, ◌�
 use Rattle.std.specs.Prelude.{◌==◌, ◌||◌, not, nat_lt, Option, Some, None, find, unwrap_or}
 use Rattle.std.specs.List.{range_with_len, list_all}
 use Rattle.std.proofs.lemmas.Bool.{cases_Bool, both_ways, and_parts, and_from, or_cases, or_left, or_right, not-true, not_from_false, false_from_ne_true, ne_eqb, eq-eqb, cases_eq, lt-ltb, ltb-true}
-use Rattle.hg_base.specs.Edges.{IsIn}
+use Rattle.hg_base.specs.Lists.{IsIn}
 use Rattle.hg_base.specs.Labels.{IsLabel}
-use Rattle.hg_base.specs.Tree.{ParentTree, parent, IsAbove}
-use Rattle.hg_base.specs.Levels.{IsClimbing, is_above}
-use Rattle.hg_base.proofs.Climbs.{above-parent}
+use Rattle.tree_laws.specs.Tree.{ParentTree, parent, IsAbove}
+use Rattle.tree_laws.specs.Levels.{IsClimbing, is_above}
+use Rattle.tree_laws.proofs.Climbs.{above-parent}
 use Rattle.hg_base.proofs.Leasts.{first_of}
-use Rattle.hg_base.proofs.Tops.{is_above-from, is_above-to}
+use Rattle.tree_laws.proofs.Tops.{is_above-from, is_above-to}
 use Rattle.partition_tree.specs.Forest.{IsForest}
 use Rattle.partition_tree.specs.Children.{is_child, child_count, IsChildAt}
 use Rattle.partition_tree.proofs.ChildLemmas.{count-nth, child-parent, child-other}

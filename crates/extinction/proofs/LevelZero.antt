@@ -5,23 +5,24 @@ use Rattle.std.proofs.lemmas.Bool.{cases_Bool, both_ways, and_parts, and_from, a
 use Rattle.std.proofs.lemmas.List.FromFn.{get_or-map-range_with_len, length-map-range_with_len}
 use Rattle.std.proofs.lemmas.List.{length-map}
 use Rattle.hg_base.specs.Graph.{WeightedGraph, IsGraph}
-use Rattle.hg_base.specs.Edges.{ListedEdge, EdgeList, IsIn, AreApart, AreWithin, IsWalk, joined, below, is_joining, joins}
+use Rattle.edge_laws.specs.Edges.{ListedEdge, EdgeList, AreApart, AreWithin, IsWalk, joined, below, is_joining, joins}
+use Rattle.hg_base.specs.Lists.{IsIn}
 use Rattle.hg_base.specs.Labels.{IsLabel}
-use Rattle.hg_base.specs.Rank.{ranked}
-use Rattle.hg_base.specs.Saliency.{at_most, AreByWeight}
-use Rattle.hg_base.specs.Tree.{ParentTree, altitude, IsAbove, graph_tree, place}
-use Rattle.hg_base.specs.Levels.{AltitudesRise, Shares}
-use Rattle.hg_base.proofs.Climbs.{above-on, above-next, above-either, above-rises, above-parent}
-use Rattle.hg_base.proofs.Components.{IsIn-append, IsIn-append_back}
-use Rattle.hg_base.proofs.Drops.{holds}
-use Rattle.hg_base.proofs.FrontOnce.{below-ends}
-use Rattle.hg_base.proofs.Levels.{level-tree}
-use Rattle.hg_base.proofs.Ranked.{AreApart-ranked}
-use Rattle.hg_base.proofs.Members.{IsIn-filter, IsIn-kept, IsIn-below_kept}
-use Rattle.hg_base.proofs.Sets.{IsIn-joins, IsIn-joins_kept}
-use Rattle.hg_base.proofs.TreeNodes.{made-within}
-use Rattle.hg_base.proofs.Walks.{IsSame-joined, joined-ends, Joined-joined}
-use Rattle.hg_base.proofs.ZoneLevels.{shares-joined}
+use Rattle.edge_laws.specs.Rank.{ranked}
+use Rattle.edge_laws.specs.Saliency.{at_most, AreByWeight}
+use Rattle.tree_laws.specs.Tree.{ParentTree, altitude, IsAbove, graph_tree, place}
+use Rattle.tree_laws.specs.Levels.{AltitudesRise, Shares}
+use Rattle.tree_laws.proofs.Climbs.{above-on, above-next, above-either, above-rises, above-parent}
+use Rattle.hg_base.proofs.Lists.{IsIn-append, IsIn-append_back, IsIn-filter, IsIn-kept}
+use Rattle.edge_laws.proofs.Drops.{holds}
+use Rattle.tree_laws.proofs.FrontOnce.{below-ends}
+use Rattle.tree_laws.proofs.Levels.{level-tree}
+use Rattle.edge_laws.proofs.Ranked.{AreApart-ranked}
+use Rattle.edge_laws.proofs.Members.{IsIn-below_kept}
+use Rattle.edge_laws.proofs.Sets.{IsIn-joins, IsIn-joins_kept}
+use Rattle.tree_laws.proofs.TreeNodes.{made-within}
+use Rattle.edge_laws.proofs.Walks.{IsSame-joined, joined-ends, Joined-joined}
+use Rattle.tree_laws.proofs.ZoneLevels.{shares-joined}
 use Rattle.partition_tree.specs.Forest.{IsForest}
 use Rattle.partition_tree.specs.Children.{child_count}
 use Rattle.partition_tree.proofs.TreeLemmas.{tree-forest, tree-rises}

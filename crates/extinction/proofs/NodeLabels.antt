@@ -4,14 +4,15 @@ use Rattle.std.specs.Prelude.{nat_lt}
 use Rattle.std.proofs.lemmas.Bool.{cases_Bool, cases_lt, true_from_ne_false, cond-true, cond-false, lt-ltb, le-ltb}
 use Rattle.std.proofs.lemmas.List.FromFn.{get_or-map-range_with_len}
 use Rattle.hg_base.specs.Graph.{WeightedGraph, IsGraph}
-use Rattle.hg_base.specs.Edges.{ListedEdge, IsIn, joins}
+use Rattle.edge_laws.specs.Edges.{ListedEdge, joins}
+use Rattle.hg_base.specs.Lists.{IsIn}
 use Rattle.hg_base.specs.Labels.{IsLabel}
-use Rattle.hg_base.specs.Rank.{ranked}
-use Rattle.hg_base.specs.Tree.{IsAbove, graph_tree, place}
-use Rattle.hg_base.proofs.Climbs.{above-rises}
-use Rattle.hg_base.proofs.FrontOnce.{leaf_or_made, ends-apart, below-ends}
-use Rattle.hg_base.proofs.Sets.{IsIn-joins_kept}
-use Rattle.hg_base.proofs.Walks.{joined-ends, Joined-joined}
+use Rattle.edge_laws.specs.Rank.{ranked}
+use Rattle.tree_laws.specs.Tree.{IsAbove, graph_tree, place}
+use Rattle.tree_laws.proofs.Climbs.{above-rises}
+use Rattle.tree_laws.proofs.FrontOnce.{leaf_or_made, ends-apart, below-ends}
+use Rattle.edge_laws.proofs.Sets.{IsIn-joins_kept}
+use Rattle.edge_laws.proofs.Walks.{joined-ends, Joined-joined}
 use Rattle.watershed_cut.specs.MinimumTests.{is_minimum, in_minimum, minimum_count, vertex_label, edge_label}
 use Rattle.watershed_cut.specs.MinimumLabels.{numbered, minima_of}
 use Rattle.watershed_cut.proofs.GraphForest.{ranked-numbered}

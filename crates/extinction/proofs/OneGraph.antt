@@ -2,7 +2,7 @@
 use Rattle.std.proofs.Common.{◌≡◌, sym, ◌∙◌, ap, subst, length}
 use Rattle.std.proofs.lemmas.List.FromFn.{length-map-range_with_len}
 use Rattle.hg_base.specs.Graph.{WeightedGraph}
-use Rattle.hg_base.specs.Tree.{ParentTree, graph_tree}
+use Rattle.tree_laws.specs.Tree.{ParentTree, graph_tree}
 use Rattle.attributes.specs.Attributes.{AttributeLists, area_of, vertices}
 use Rattle.watershed_cut.specs.MinimumLabels.{LabelledMinima, minima_of}
 use Rattle.extinction.specs.Values.{values_of, AreOf, AreOfOne}

@@ -4,11 +4,11 @@ use Rattle.std.specs.Prelude.{find, unwrap_or, Option, Some}
 use Rattle.std.proofs.lemmas.Bool.{cases_eq, both_ways, false_from_ne_true}
 use Rattle.std.proofs.lemmas.List.{get_or-set_same, get_or-set_other, length-set, length-replicate}
 use Rattle.hg_base.specs.Graph.{WeightedGraph, IsGraph}
-use Rattle.hg_base.specs.Edges.{count_below}
+use Rattle.hg_base.specs.Counting.{count_below}
 use Rattle.hg_base.specs.Labels.{IsLabel}
-use Rattle.hg_base.specs.Rank.{ranked}
-use Rattle.hg_base.specs.Tree.{ParentTree, parent, ancestor, IsAbove, graph_tree}
-use Rattle.hg_base.proofs.Climbs.{above-within}
+use Rattle.edge_laws.specs.Rank.{ranked}
+use Rattle.tree_laws.specs.Tree.{ParentTree, parent, ancestor, IsAbove, graph_tree}
+use Rattle.tree_laws.proofs.Climbs.{above-within}
 use Rattle.partition_tree.specs.Children.{is_child, child_count, IsChildAt}
 use Rattle.partition_tree.proofs.ChildLemmas.{child-is, count-less}
 use Rattle.watershed_cut.specs.MinimumLabels.{LabelledMinima, minima_of}

@@ -3,8 +3,8 @@ use Rattle.std.proofs.Common.{◌≡◌, ◌≢◌, ℕ, ◌+◌, ◌-◌, ◌<�
 use Rattle.std.proofs.Math.Seq.{take-append_seam}
 use Rattle.std.proofs.lemmas.Bool.{cases_eq}
 use Rattle.std.proofs.lemmas.List.{get_or-set_same, get_or-set_other, length-set}
-use Rattle.hg_base.specs.Edges.{count_below}
-use Rattle.hg_base.specs.Tree.{ParentTree, parent}
+use Rattle.hg_base.specs.Counting.{count_below}
+use Rattle.tree_laws.specs.Tree.{ParentTree, parent}
 use Rattle.partition_tree.specs.Forest.{IsForest}
 use Rattle.partition_tree.specs.Children.{is_child, IsChildAt}
 use Rattle.partition_tree.proofs.ChildLemmas.{count-same, child-is, child-root, child-parent, child-other, child-counted, child-uncounted}

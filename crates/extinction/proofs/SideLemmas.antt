@@ -3,27 +3,29 @@ use Rattle.std.proofs.Common.{◌≡◌, ℕ, suc, ◌+◌, ◌<◌, ◌≤◌, 
 use Rattle.std.specs.Prelude.{◌↔◌, ◌==◌, ◌&&◌, Option, Some, find, unwrap_or}
 use Rattle.std.specs.List.{range_with_len}
 use Rattle.std.proofs.lemmas.Bool.{cases_order, both_ways, and_parts, and_from, false_from_ne_true, eqb-true, eq-eqb}
-use Rattle.hg_base.specs.Edges.{ListedEdge, EdgeList, IsIn, AreApart, AreWithin, joined, below, joins, is_joining, next, count_below}
-use Rattle.hg_base.specs.Tree.{ParentTree, parent, IsAbove, place, node_or, tree_of}
-use Rattle.hg_base.specs.Levels.{IsClimbing}
-use Rattle.hg_base.proofs.Climbs.{above-parent, above-next, above-either, above-rises}
+use Rattle.edge_laws.specs.Edges.{ListedEdge, EdgeList, AreApart, AreWithin, joined, below, joins, is_joining, next}
+use Rattle.hg_base.specs.Lists.{IsIn}
+use Rattle.hg_base.specs.Counting.{count_below}
+use Rattle.tree_laws.specs.Tree.{ParentTree, parent, IsAbove, place, node_or, tree_of}
+use Rattle.tree_laws.specs.Levels.{IsClimbing}
+use Rattle.tree_laws.proofs.Climbs.{above-parent, above-next, above-either, above-rises}
 use Rattle.hg_base.proofs.Counts.{count_below-zero}
 use Rattle.hg_base.proofs.CountMore.{count_below-cut}
-use Rattle.hg_base.proofs.Drops.{holds}
-use Rattle.hg_base.proofs.Fronts.{joined-step_with}
-use Rattle.hg_base.proofs.FrontOnce.{ends-apart}
-use Rattle.hg_base.proofs.FrontTree.{IsStill, last_below, above-made, component-leaf, component-made}
+use Rattle.edge_laws.proofs.Drops.{holds}
+use Rattle.edge_laws.proofs.Fronts.{joined-step_with}
+use Rattle.tree_laws.proofs.FrontOnce.{ends-apart}
+use Rattle.tree_laws.proofs.FrontTree.{IsStill, last_below, above-made, component-leaf, component-made}
 use Rattle.hg_base.proofs.Leasts.{first_of}
-use Rattle.hg_base.proofs.Leaving.{leaves}
-use Rattle.hg_base.proofs.Link.{IsSame, link_cases}
-use Rattle.hg_base.proofs.Merged.{next-row, joined-to_end}
-use Rattle.hg_base.proofs.Next.{IsFirst-one, next-first}
-use Rattle.hg_base.proofs.Nodes.{length-parents, parent-leaf, parent-inner}
-use Rattle.hg_base.proofs.Meeting.{place-less}
-use Rattle.hg_base.proofs.Paths.{leaving-joins}
-use Rattle.hg_base.proofs.Sets.{IsIn-joins, IsIn-joins_kept}
-use Rattle.hg_base.proofs.TreeNodes.{made-within}
-use Rattle.hg_base.proofs.Walks.{IsSame-joined, Joined-joined}
+use Rattle.edge_laws.proofs.Leaving.{leaves}
+use Rattle.edge_laws.proofs.Link.{IsSame, link_cases}
+use Rattle.edge_laws.proofs.Merged.{next-row, joined-to_end}
+use Rattle.edge_laws.proofs.Next.{IsFirst-one, next-first}
+use Rattle.tree_laws.proofs.Nodes.{length-parents, parent-leaf, parent-inner}
+use Rattle.tree_laws.proofs.Meeting.{place-less}
+use Rattle.tree_laws.proofs.Paths.{leaving-joins}
+use Rattle.edge_laws.proofs.Sets.{IsIn-joins, IsIn-joins_kept}
+use Rattle.tree_laws.proofs.TreeNodes.{made-within}
+use Rattle.edge_laws.proofs.Walks.{IsSame-joined, Joined-joined}
 use Rattle.partition_tree.specs.Children.{is_child, child_count, IsChildAt}
 use Rattle.partition_tree.specs.Forest.{IsForest}
 use Rattle.partition_tree.proofs.ChildLemmas.{count-yes, count-same, child-is, child-parent, child-other}

@@ -1,14 +1,15 @@
 -- What the tree of a graph keeps to.
 use Rattle.std.proofs.Common.{◌≡◌, ℕ, ◌<◌, ◌≤◌, inl, inr, sym, ◌∙◌, ap, arith, length}
 use Rattle.hg_base.specs.Graph.{WeightedGraph, IsGraph}
-use Rattle.hg_base.specs.Edges.{ListedEdge, IsIn, AreApart, AreWithin, joins}
-use Rattle.hg_base.specs.Rank.{ranked}
-use Rattle.hg_base.specs.Saliency.{AreByWeight}
-use Rattle.hg_base.specs.Tree.{graph_tree}
-use Rattle.hg_base.specs.Levels.{IsClimbing, IsLevelTree}
-use Rattle.hg_base.proofs.FrontOnce.{leaf_or_made}
-use Rattle.hg_base.proofs.Levels.{level-tree}
-use Rattle.hg_base.proofs.Ranked.{AreApart-ranked, AreWithin-ranked, AreByWeight-ranked}
+use Rattle.edge_laws.specs.Edges.{ListedEdge, AreApart, AreWithin, joins}
+use Rattle.hg_base.specs.Lists.{IsIn}
+use Rattle.edge_laws.specs.Rank.{ranked}
+use Rattle.edge_laws.specs.Saliency.{AreByWeight}
+use Rattle.tree_laws.specs.Tree.{graph_tree}
+use Rattle.tree_laws.specs.Levels.{IsClimbing, IsLevelTree}
+use Rattle.tree_laws.proofs.FrontOnce.{leaf_or_made}
+use Rattle.tree_laws.proofs.Levels.{level-tree}
+use Rattle.edge_laws.proofs.Ranked.{AreApart-ranked, AreWithin-ranked, AreByWeight-ranked}
 use Rattle.partition_tree.specs.Forest.{IsForest}
 use Rattle.partition_tree.specs.Children.{child_count}
 use Rattle.partition_tree.proofs.ForestClimbs.{forest-climbs}

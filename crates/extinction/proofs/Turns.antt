@@ -4,8 +4,8 @@ use Rattle.std.specs.List.{range_with_len}
 use Rattle.std.proofs.lemmas.List.{length-map}
 use Rattle.hg_base.specs.declared.graph.Edge.{Edge}
 use Rattle.hg_base.specs.Graph.{WeightedGraph, weight}
-use Rattle.hg_base.specs.Rank.{numbers, comes_before, rank, number_at}
-use Rattle.hg_base.proofs.Ranks.{rank-below, rank-injective, number_at-rank, number_at-below, rank-number_at, weight-rises}
+use Rattle.edge_laws.specs.Rank.{numbers, comes_before, rank, number_at}
+use Rattle.edge_laws.proofs.Ranks.{rank-below, rank-injective, number_at-rank, number_at-below, rank-number_at, weight-rises}
 use Rattle.extinction.specs.Hierarchy.{comes_sooner, turn}
 
 -- edges of these weights, in a graph of which only the weights matter

@@ -6,14 +6,13 @@ use Rattle.std.proofs.lemmas.List.Sums.{sum_by-cons}
 use Rattle.std.proofs.lemmas.List.FromFn.{get_or-map-range_with_len}
 use Rattle.std.proofs.lemmas.Option.{get_or_from_slice_get}
 use Rattle.hg_base.specs.Graph.{WeightedGraph, IsGraph}
-use Rattle.hg_base.specs.Edges.{IsIn}
-use Rattle.hg_base.specs.Rank.{ranked}
-use Rattle.hg_base.specs.Tree.{ParentTree, parent, altitude, IsAbove, graph_tree}
-use Rattle.hg_base.specs.Levels.{is_above}
-use Rattle.hg_base.proofs.Climbs.{above-next, above-altitude}
-use Rattle.hg_base.proofs.Members.{IsIn-filter}
-use Rattle.hg_base.proofs.Nodes.{slice_get-some}
-use Rattle.hg_base.proofs.Tops.{is_above-from}
+use Rattle.hg_base.specs.Lists.{IsIn}
+use Rattle.edge_laws.specs.Rank.{ranked}
+use Rattle.tree_laws.specs.Tree.{ParentTree, parent, altitude, IsAbove, graph_tree}
+use Rattle.tree_laws.specs.Levels.{is_above}
+use Rattle.tree_laws.proofs.Climbs.{above-next, above-altitude}
+use Rattle.hg_base.proofs.Lists.{IsIn-filter, slice_get-some}
+use Rattle.tree_laws.proofs.Tops.{is_above-from}
 use Rattle.attributes.specs.Attributes.{floor, area, area_of, volume_under, dynamics_under, vertices, altitude_over}
 use Rattle.attributes.proofs.LowFloors.{least-le, in-mapped, floors-low}
 use Rattle.watershed_cut.specs.MinimumTests.{vertex_label}

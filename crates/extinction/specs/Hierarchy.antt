@@ -2,9 +2,9 @@
 use Rattle.std.specs.Prelude.{◌==◌, ℕ, Bool, ◌&&◌, ◌||◌, List, length, map, count_by, nat_lt, slice_index}
 use Rattle.std.specs.List.{range_with_len}
 use Rattle.hg_base.specs.Graph.{WeightedGraph}
-use Rattle.hg_base.specs.Edges.{ListedEdge, EdgeList, joins}
-use Rattle.hg_base.specs.Rank.{ranked}
-use Rattle.hg_base.specs.Tree.{ParentTree, place, tree_of}
+use Rattle.edge_laws.specs.Edges.{ListedEdge, EdgeList, joins}
+use Rattle.edge_laws.specs.Rank.{ranked}
+use Rattle.tree_laws.specs.Tree.{ParentTree, place, tree_of}
 use Rattle.extinction.specs.Persistence.{persistences_of}
 use Rattle.extinction.specs.declared.kind.Kind.{Kind}
 

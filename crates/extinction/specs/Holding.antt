@@ -1,10 +1,10 @@
 -- Which minima a node of a tree holds.
 use Rattle.std.specs.Prelude.{◌≡◌, ◌==◌, ℕ, ◌<◌, Bool, not, ◌&&◌, ◌||◌, length, find, unwrap_or, nat_lt, slice_index}
 use Rattle.std.specs.List.{range_with_len, list_any, list_all}
-use Rattle.hg_base.specs.Edges.{count_below}
+use Rattle.hg_base.specs.Counting.{count_below}
 use Rattle.hg_base.specs.Labels.{IsLabel}
-use Rattle.hg_base.specs.Tree.{ParentTree, IsAbove}
-use Rattle.hg_base.specs.Levels.{is_above}
+use Rattle.tree_laws.specs.Tree.{ParentTree, IsAbove}
+use Rattle.tree_laws.specs.Levels.{is_above}
 use Rattle.partition_tree.specs.Children.{is_child, child_count}
 use Rattle.watershed_cut.specs.MinimumLabels.{LabelledMinima}
 

@@ -1,10 +1,9 @@
 -- What the passes over a tree's nodes give.
-use Rattle.std.specs.Prelude.{◌≡◌, ◌==◌, ℕ, suc, ◌+◌, ◌-◌, ◌<◌, ◌≤◌, Bool, false, not, ◌&&◌, List, length, find, min, nat_lt, slice_index, Option, Some, None, if◌then◌else◌}
+use Rattle.std.specs.Prelude.{◌≡◌, ◌==◌, ℕ, suc, ◌+◌, ◌-◌, ◌<◌, ◌≤◌, Bool, false, not, ◌&&◌, List, length, find, min, nat_lt, slice_index, Option, Some, None, if◌then◌else◌, slice_index_or}
 use Rattle.std.specs.Option.{option_map_or}
 use Rattle.std.specs.List.{range_with_len}
-use Rattle.std.specs.Prelude.{slice_index_or}
-use Rattle.hg_base.specs.Tree.{ParentTree}
-use Rattle.hg_base.specs.Zones.{maker}
+use Rattle.tree_laws.specs.Tree.{ParentTree}
+use Rattle.tree_laws.specs.Zones.{maker}
 use Rattle.partition_tree.specs.Children.{child_count}
 use Rattle.watershed_cut.specs.MinimumLabels.{LabelledMinima}
 use Rattle.extinction.specs.Holding.{child, child_holds, least_held}

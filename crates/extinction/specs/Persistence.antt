@@ -2,7 +2,7 @@
 use Rattle.std.specs.Prelude.{ℕ, ◌+◌, List, length, map, min, slice_index, if◌then◌else◌}
 use Rattle.std.specs.List.{range_with_len}
 use Rattle.hg_base.specs.Graph.{WeightedGraph}
-use Rattle.hg_base.specs.Tree.{ParentTree, graph_tree}
+use Rattle.tree_laws.specs.Tree.{ParentTree, graph_tree}
 use Rattle.watershed_cut.specs.MinimumLabels.{LabelledMinima, minima_of}
 use Rattle.extinction.specs.Values.{graph_values}
 use Rattle.extinction.specs.Holding.{child, both_hold}

@@ -2,7 +2,7 @@
 use Rattle.std.specs.Prelude.{ℕ, ◌+◌, List, [], ◌∷◌, ◌++◌, codes, length, slice_index}
 use Rattle.std.specs.List.{range_with_len, flat_map}
 use Rattle.hg_base.specs.Text.{line, headed_line}
-use Rattle.hg_base.specs.Tree.{ParentTree}
+use Rattle.tree_laws.specs.Tree.{ParentTree}
 use Rattle.partition_tree.specs.Report.{tree_report}
 
 -- the line of the label that comes after k others: the label and its extinction

@@ -2,10 +2,10 @@
 use Rattle.std.specs.Prelude.{◌≡◌, ℕ, ◌+◌, ◌<◌, List, length, map, All, slice_index}
 use Rattle.std.specs.List.{range_with_len}
 use Rattle.hg_base.specs.Graph.{WeightedGraph, first_end, second_end}
-use Rattle.hg_base.specs.Edges.{EdgeList, IsSameSet}
-use Rattle.hg_base.specs.Rank.{ranked}
-use Rattle.hg_base.specs.Tree.{graph_tree}
-use Rattle.hg_base.specs.Zones.{maker}
+use Rattle.edge_laws.specs.Edges.{EdgeList, IsSameSet}
+use Rattle.edge_laws.specs.Rank.{ranked}
+use Rattle.tree_laws.specs.Tree.{graph_tree}
+use Rattle.tree_laws.specs.Zones.{maker}
 use Rattle.partition_tree.specs.declared.list.Ranked.{Ranked}
 use Rattle.partition_tree.specs.Ranked.{IsRankedList, edges_of}
 use Rattle.extinction.specs.Hierarchy.{turn, hierarchy_edges}

@@ -1,7 +1,7 @@
 -- The attributes by which a hierarchy is made.
 use Rattle.std.specs.Prelude.{◌≡◌, ℕ, List}
 use Rattle.hg_base.specs.Graph.{WeightedGraph, IsGraph}
-use Rattle.hg_base.specs.Tree.{ParentTree, graph_tree}
+use Rattle.tree_laws.specs.Tree.{ParentTree, graph_tree}
 use Rattle.attributes.specs.Attributes.{AttributeLists, attributes_of}
 use Rattle.watershed_cut.specs.MinimumLabels.{LabelledMinima, minima_of}
 use Rattle.extinction.specs.declared.kind.Kind.{Kind}

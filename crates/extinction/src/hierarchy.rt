@@ -1,7 +1,7 @@
 ghost use Rattle.std.specs.Prelude.{◌≡◌, ◌↔◌, ℕ, ◌<◌, ◌≤◌, length, IfOk};
-ghost use Rattle.hg_base.specs.Rank.{ranked};
-ghost use Rattle.hg_base.specs.Tree.{graph_tree};
-ghost use Rattle.hg_base.specs.Levels.{AltitudesRise, Shares};
+ghost use Rattle.edge_laws.specs.Rank.{ranked};
+ghost use Rattle.tree_laws.specs.Tree.{graph_tree};
+ghost use Rattle.tree_laws.specs.Levels.{AltitudesRise, Shares};
 ghost use Rattle.partition_tree.specs.Ranked.{JoinsTwo};
 ghost use Rattle.attributes.specs.Attributes.{attributes_of};
 ghost use Rattle.watershed_cut.specs.MinimumLabels.{minima_of};

@@ -1,9 +1,9 @@
 //! Laws of the definitions. Each is the contract of a function that does nothing.
 ghost use Rattle.std.specs.Prelude.{◌≡◌, ◌↔◌, ℕ, ◌<◌, ◌≤◌, List, length, true, false, IsTrue, slice_index};
 ghost use Rattle.hg_base.specs.Graph.{WeightedGraph, IsGraph};
-ghost use Rattle.hg_base.specs.Rank.{ranked};
-ghost use Rattle.hg_base.specs.Tree.{ParentTree, graph_tree};
-ghost use Rattle.hg_base.specs.Levels.{IsClimbing, AltitudesRise, Shares};
+ghost use Rattle.edge_laws.specs.Rank.{ranked};
+ghost use Rattle.tree_laws.specs.Tree.{ParentTree, graph_tree};
+ghost use Rattle.tree_laws.specs.Levels.{IsClimbing, AltitudesRise, Shares};
 ghost use Rattle.partition_tree.specs.Forest.{IsForest};
 ghost use Rattle.partition_tree.specs.Children.{child_count, IsChildAt};
 ghost use Rattle.watershed_cut.specs.MinimumLabels.{LabelledMinima, minima_of};

@@ -1,5 +1,5 @@
 ghost use Rattle.std.specs.Prelude.{◌≡◌, length, IfOk};
-ghost use Rattle.hg_base.specs.Rank.{ranked};
+ghost use Rattle.edge_laws.specs.Rank.{ranked};
 ghost use Rattle.partition_tree.specs.Ranked.{IsRankedList, edges_of};
 ghost use Rattle.attributes.specs.Tests.{graph_from};
 

@@ -4,7 +4,7 @@ use Rattle.std.specs.Prelude.{count_by}
 use Rattle.std.proofs.lemmas.List.FromFn.{length-range_with_len}
 use Rattle.std.proofs.lemmas.List.Sums.{length-filter, count_by-le-length}
 use Rattle.hg_base.specs.Graph.{WeightedGraph, IsGraph}
-use Rattle.hg_base.specs.Rank.{numbers, ranked}
+use Rattle.edge_laws.specs.Rank.{numbers, ranked}
 use Rattle.watershed_cut.specs.MinimumLabels.{numbered}
 use Rattle.watershed_cut.specs.Forest.{is_forest, forest}
 use Rattle.watershed_cut.specs.Rooted.{IsRooted, cost}

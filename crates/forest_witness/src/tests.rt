@@ -1,7 +1,7 @@
 ghost use Rattle.std.specs.Prelude.{◌≡◌, map, IfOk};
 ghost use Rattle.hg_base.specs.Graph.{with_unit_areas};
-ghost use Rattle.hg_base.specs.Rank.{ranked};
-ghost use Rattle.hg_base.specs.Worked.{edge};
+ghost use Rattle.edge_laws.specs.Rank.{ranked};
+ghost use Rattle.tree_laws.specs.Worked.{edge};
 ghost use Rattle.partition_tree.specs.Ranked.{IsRankedList, edges_of};
 
 use super::witness;

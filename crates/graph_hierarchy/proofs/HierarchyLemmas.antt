@@ -2,12 +2,12 @@
 use Rattle.std.proofs.Common.{◌≡◌, ℕ, ◌*◌, length, Ok, Err, refl, sym, ap, ◌∙◌, subst, arith}
 use Rattle.std.proofs.lemmas.List.FromFn.{length-map-range_with_len}
 use Rattle.edge_order.specs.Order.{EdgeOrder, order_of}
-use Rattle.hg_base.specs.Edges.{EdgeList}
+use Rattle.edge_laws.specs.Edges.{EdgeList}
 use Rattle.hg_base.specs.Graph.{WeightedGraph, IsGraph}
-use Rattle.hg_base.specs.Levels.{AltitudesRise}
-use Rattle.hg_base.specs.Rank.{listed, number_at, ranked}
-use Rattle.hg_base.specs.Tree.{ParentTree, graph_tree}
-use Rattle.hg_base.proofs.Ranked.{AreApart-ranked, AreByWeight-ranked}
+use Rattle.tree_laws.specs.Levels.{AltitudesRise}
+use Rattle.edge_laws.specs.Rank.{listed, number_at, ranked}
+use Rattle.tree_laws.specs.Tree.{ParentTree, graph_tree}
+use Rattle.edge_laws.proofs.Ranked.{AreApart-ranked, AreByWeight-ranked}
 use Rattle.merge_board.specs.Seats.{ReceiptState}
 use Rattle.partition_tree.specs.Forest.{IsForest}
 use Rattle.partition_tree.proofs.TreeLemmas.{tree-rises}

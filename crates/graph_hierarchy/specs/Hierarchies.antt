@@ -2,8 +2,8 @@
 use Rattle.std.specs.Prelude.{◌≡◌, ℕ, ◌<◌, ◌≤◌, Result, Ok, Err}
 use Rattle.edge_order.specs.Order.{order_of}
 use Rattle.hg_base.specs.Graph.{WeightedGraph, IsGraph}
-use Rattle.hg_base.specs.Levels.{AltitudesRise}
-use Rattle.hg_base.specs.Tree.{ParentTree, graph_tree}
+use Rattle.tree_laws.specs.Levels.{AltitudesRise}
+use Rattle.tree_laws.specs.Tree.{ParentTree, graph_tree}
 use Rattle.partition_tree.specs.Forest.{IsForest}
 use Rattle.tile_plan.specs.Plan.{tile_count}
 use Rattle.tile_plan.specs.declared.fault.PlanFault.{PlanFault}

@@ -1,9 +1,8 @@
 -- Counting numbers below a bound, and the least members of the classes of an equivalence.
-use Rattle.std.proofs.Common.{◌≡◌, ◌≢◌, ℕ, zero, suc, ◌+◌, ◌<◌, Bool, true, false, cond, ◌⊎◌, inl, inr, refl, sym, ◌∙◌, subst, ap, arith}
+use Rattle.std.proofs.Common.{◌≡◌, ◌≢◌, ℕ, zero, suc, ◌+◌, ◌<◌, Bool, true, false, cond, ◌⊎◌, inl, inr, refl, sym, subst, ap, arith}
 use Rattle.std.specs.Prelude.{◌==◌}
-use Rattle.std.proofs.lemmas.Bool.{cases_Bool, cases_order, eqb-true, eq-eqb, true≢false}
-use Rattle.hg_base.specs.Edges.{count_below, is_least}
-use Rattle.hg_base.proofs.Link.{IsSame}
+use Rattle.std.proofs.lemmas.Bool.{cases_Bool, cases_order, eqb-true, eq-eqb}
+use Rattle.hg_base.specs.Counting.{count_below, is_least}
 
 -- tests that agree below n count the same
 pub count_below-agree : (p q : ℕ → Bool) (n : ℕ) → ((x : ℕ) → x < n → p x ≡ q x) → count_below p n ≡ count_below q n
@@ -81,12 +80,6 @@ least_below p (suc n) =
         ])
       ]
     ]
-
--- the least member of the class of x
-pub least_of : (r : ℕ → ℕ → Bool) → IsSame r → (x : ℕ) → LeastBelow (r x) (suc x)
-least_of r same x =
-    elim (least_below (r x) (suc x))
-    [ inl l ↦ l | inr none' ↦ absurd (true≢false (sym (same.self x) ∙ none' x (omega arith))) ]
 
 -- `is_least` says that no lesser one is in the class
 pub is_least-from : (r : ℕ → ℕ → Bool) (x : ℕ) → ((y : ℕ) → y < x → r x y ≡ false) → is_least r x ≡ true

@@ -3,7 +3,7 @@ use Rattle.std.proofs.Common.{◌≡◌, ℕ, suc, ◌<◌, ◌≤◌, Bool, tru
 use Rattle.std.specs.Prelude.{Option, Some, None, ◌&&◌, ◌==◌}
 use Rattle.std.specs.List.{range_with_len}
 use Rattle.std.proofs.lemmas.Bool.{cond-true, eq-eqb, eqb-true}
-use Rattle.hg_base.specs.Edges.{count_below, is_least}
+use Rattle.hg_base.specs.Counting.{count_below, is_least}
 use Rattle.hg_base.specs.Labels.{Labelling, IsLabelling, least_of, class_label, labelling}
 use Rattle.hg_base.specs.Numbering.{is_one_key, has_key, same_key, is_head, key_label}
 use Rattle.hg_base.proofs.Counts.{count_below-agree}

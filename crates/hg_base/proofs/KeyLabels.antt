@@ -7,7 +7,7 @@ use Rattle.std.specs.Prelude.{Option, Some, None, All, IfSome}
 use Rattle.std.specs.Option.{is_some}
 use Rattle.std.proofs.lemmas.Bool.{cases_order, both_ways, true≢false, false_from_ne_true, eqb-true, eq-eqb, and_from, and_left, and_right, cond-true, cond-false}
 use Rattle.std.proofs.lemmas.List.{get_or-set_same, get_or-set_other}
-use Rattle.hg_base.specs.Edges.{count_below, is_least}
+use Rattle.hg_base.specs.Counting.{count_below, is_least}
 use Rattle.hg_base.specs.Labels.{least_of}
 use Rattle.hg_base.specs.Numbering.{is_one_key, has_key, same_key, is_head, key_label, AreNumbers}
 use Rattle.hg_base.proofs.Counts.{least_below, is_least-from, is_least-to}

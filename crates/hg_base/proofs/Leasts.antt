@@ -4,7 +4,7 @@ use Rattle.std.specs.Prelude.{Option, Some, find, unwrap_or, ◌==◌}
 use Rattle.std.specs.List.{range_with_len}
 use Rattle.std.proofs.lemmas.Bool.{cases_Bool, cases_order, both_ways}
 use Rattle.std.proofs.lemmas.List.FromFn.{length-map-range_with_len, get_or-map-range_with_len}
-use Rattle.hg_base.specs.Edges.{count_below, is_least}
+use Rattle.hg_base.specs.Counting.{count_below, is_least}
 use Rattle.hg_base.specs.Labels.{Labelling, IsLabel, IsLabelling, least_of, class_label, labelling}
 use Rattle.hg_base.proofs.Counts.{count_below-agree, is_least-from}
 use Rattle.hg_base.proofs.Passing.{count_below-rises}

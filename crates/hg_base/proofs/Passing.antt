@@ -4,8 +4,8 @@ use Rattle.std.specs.Prelude.{Some, filter, slice_get}
 use Rattle.std.specs.List.{range_with_len}
 use Rattle.std.proofs.lemmas.Bool.{cases_Bool, cases_lt, cases_order}
 use Rattle.std.proofs.lemmas.List.Elements.{filter-append}
-use Rattle.hg_base.specs.Edges.{count_below}
-use Rattle.hg_base.proofs.Nodes.{slice_get-front, slice_get-back}
+use Rattle.hg_base.specs.Counting.{count_below}
+use Rattle.hg_base.proofs.Lists.{slice_get-front, slice_get-back}
 
 -- the numbers below n that pass
 abbrev pub passing : (ℕ → Bool) → ℕ → List ℕ

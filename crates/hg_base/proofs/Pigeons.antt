@@ -1,7 +1,7 @@
 -- A function that takes each number below n to a different number below m.
 use Rattle.std.proofs.Common.{◌≡◌, ℕ, zero, suc, ◌<◌, ◌≤◌, ◌==◌, ◌⊎◌, inl, inr, cond, refl, sym, ◌∙◌, arith}
 use Rattle.std.proofs.lemmas.Bool.Decides.{eqb_tells}
-use Rattle.hg_base.specs.Edges.{IsOneToOne}
+use Rattle.hg_base.specs.Counting.{IsOneToOne}
 
 -- f takes each number below n to one below m
 abbrev pub Into : (ℕ → ℕ) → ℕ → ℕ → Type 0

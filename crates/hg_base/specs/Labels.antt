@@ -1,7 +1,7 @@
 -- Labels of vertices, 1, 2, .. in order of the least vertex of each class.
 use Rattle.std.specs.Prelude.{ℕ, suc, ◌≤◌, Bool, List, length, map, All, find, unwrap_or}
 use Rattle.std.specs.List.{range_with_len}
-use Rattle.hg_base.specs.Edges.{count_below, is_least}
+use Rattle.hg_base.specs.Counting.{count_below, is_least}
 
 -- labels as contracts see them: one for each vertex, from 1 to count
 pub record Labelling : Type 0 where

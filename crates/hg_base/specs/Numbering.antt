@@ -1,7 +1,7 @@
 -- Classes of numbers by keys, labelled 1, 2, .. in order of their least members. What has no key is in no class.
 use Rattle.std.specs.Prelude.{◌≡◌, ◌==◌, ℕ, suc, ◌<◌, Bool, false, ◌&&◌, List, length, Option, Some, None, get_or, if◌then◌else◌}
 use Rattle.std.specs.Option.{is_some}
-use Rattle.hg_base.specs.Edges.{count_below, is_least}
+use Rattle.hg_base.specs.Counting.{count_below, is_least}
 use Rattle.hg_base.specs.Labels.{least_of}
 
 -- both are keys, and one

@@ -1,4 +1,4 @@
-//! Graphs, faults, the outside of a run, and the definitions and laws that every crate above cites.
+//! Graphs, labels, faults, the outside of a run, lines of text, and what every crate above cites of lists and of counting.
 #![tactic(auto)]
 
 mod fault;
@@ -6,17 +6,11 @@ mod gate;
 mod graph;
 mod graph_fault;
 mod labels;
-pub mod laws;
-pub mod level_laws;
 mod memory;
 mod numbering;
 mod outside;
 mod standard;
 mod text;
-#[cfg(test)]
-mod worked;
-#[cfg(test)]
-mod worked_levels;
 
 pub use fault::{Failed, FaultKind, InputFault, OutOfMemory, ReadError};
 pub use gate::{Gate, GateEvent, OpenGate};

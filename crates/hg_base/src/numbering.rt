@@ -1,6 +1,6 @@
 ghost use Rattle.std.specs.Prelude.{◌≡◌, ◌+◌, ◌<◌, ◌≤◌, All, length, map, IfOk, IfSome, Option, ℕ};
 ghost use Rattle.std.specs.List.{range_with_len};
-ghost use Rattle.hg_base.specs.Edges.{count_below};
+ghost use Rattle.hg_base.specs.Counting.{count_below};
 ghost use Rattle.hg_base.specs.Numbering.{is_head, key_label, AreNumbers};
 
 use std::alloc::{AllocError, Global};

@@ -2,16 +2,17 @@
 use Rattle.std.proofs.Common.{◌≡◌, ℕ, suc, ◌+◌, ◌<◌, ◌≤◌, true, inl, inr, subst, arith, length}
 use Rattle.std.specs.Prelude.{◌↔◌}
 use Rattle.std.proofs.lemmas.Bool.{both_ways, cases_lt, not-true}
-use Rattle.hg_base.specs.Edges.{ListedEdge, EdgeList, AreApart, AreWithin, IsIn, below, is_joining, joined, joins}
-use Rattle.hg_base.specs.Tree.{IsAbove, altitude, place, tree_of}
-use Rattle.hg_base.proofs.FrontTree.{above-made}
-use Rattle.hg_base.proofs.Link.{IsSame}
-use Rattle.hg_base.proofs.Meeting.{altitude-inner, altitude-leaf}
-use Rattle.hg_base.proofs.Members.{IsIn-below}
-use Rattle.hg_base.proofs.Nodes.{length-parents}
-use Rattle.hg_base.proofs.Sets.{IsIn-joins_kept, joined_below-more}
-use Rattle.hg_base.proofs.TreeNodes.{node-cases}
-use Rattle.hg_base.proofs.Walks.{IsSame-joined, joined-ends}
+use Rattle.edge_laws.specs.Edges.{ListedEdge, EdgeList, AreApart, AreWithin, below, is_joining, joined, joins}
+use Rattle.hg_base.specs.Lists.{IsIn}
+use Rattle.tree_laws.specs.Tree.{IsAbove, altitude, place, tree_of}
+use Rattle.tree_laws.proofs.FrontTree.{above-made}
+use Rattle.edge_laws.proofs.Link.{IsSame}
+use Rattle.tree_laws.proofs.Meeting.{altitude-inner, altitude-leaf}
+use Rattle.edge_laws.proofs.Members.{IsIn-below}
+use Rattle.tree_laws.proofs.Nodes.{length-parents}
+use Rattle.edge_laws.proofs.Sets.{IsIn-joins_kept, joined_below-more}
+use Rattle.tree_laws.proofs.TreeNodes.{node-cases}
+use Rattle.edge_laws.proofs.Walks.{IsSame-joined, joined-ends}
 use Rattle.higra_cli.specs.Altitudes.{HasAltitudes, IsLastJoining}
 
 -- the edge that made a node is the last joining one between its leaves

@@ -6,9 +6,9 @@ use Rattle.hg_base.specs.Graph.{WeightedGraph}
 use Rattle.energy_cut.specs.Regions.{in_one_region}
 use Rattle.extinction.specs.declared.kind.Kind.{Kind}
 use Rattle.hg_base.specs.Labels.{Labelling, class_label}
-use Rattle.hg_base.specs.Levels.{shares}
-use Rattle.hg_base.specs.Rank.{ranked}
-use Rattle.hg_base.specs.Tree.{graph_tree}
+use Rattle.tree_laws.specs.Levels.{shares}
+use Rattle.edge_laws.specs.Rank.{ranked}
+use Rattle.tree_laws.specs.Tree.{graph_tree}
 use Rattle.hg_base.specs.declared.fault.InputFault.{InputFault}
 use Rattle.hg_base.specs.declared.fault.FaultKind.TheVariants.{TooManyLabels}
 use Rattle.pgm_reader.specs.Raster.{Raster}

@@ -14,8 +14,8 @@ use Rattle.energy_cut.specs.Energies.{energies_of, node_energy}
 use Rattle.energy_cut.specs.Regions.{RegionCut, energy_cut_of}
 use Rattle.hg_base.specs.declared.graph.Edge.{Edge}
 use Rattle.hg_base.specs.Graph.{WeightedGraph, IsGraph}
-use Rattle.hg_base.specs.Levels.{is_above}
-use Rattle.hg_base.specs.Tree.{ParentTree, altitude, graph_tree}
+use Rattle.tree_laws.specs.Levels.{is_above}
+use Rattle.tree_laws.specs.Tree.{ParentTree, altitude, graph_tree}
 use Rattle.partition_tree.specs.Forest.{nodes}
 use Rattle.graph_hierarchy.specs.Hierarchies.{IsTreeOf}
 use Rattle.higra_cli.specs.Reports.{graph_energies, graph_energy_cut}

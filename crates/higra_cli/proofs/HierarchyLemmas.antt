@@ -4,12 +4,12 @@ use Rattle.std.proofs.Common.{◌≡◌, ℕ, ◌<◌, sym, ◌∙◌, arith}
 use Rattle.std.specs.Prelude.{◌↔◌, get_or, IfOk, Result, Ok, Err}
 use Rattle.std.proofs.lemmas.List.FromFn.{get_or-map-range_with_len}
 use Rattle.hg_base.specs.Graph.{WeightedGraph, IsGraph}
-use Rattle.hg_base.specs.Levels.{Shares}
-use Rattle.hg_base.specs.Rank.{ranked}
-use Rattle.hg_base.specs.Tree.{graph_tree}
-use Rattle.hg_base.proofs.FrontOnce.{front-tree}
-use Rattle.hg_base.proofs.Ranked.{AreApart-ranked, AreWithin-ranked}
-use Rattle.hg_base.proofs.Saliencies.{saliency-is}
+use Rattle.tree_laws.specs.Levels.{Shares}
+use Rattle.edge_laws.specs.Rank.{ranked}
+use Rattle.tree_laws.specs.Tree.{graph_tree}
+use Rattle.tree_laws.proofs.FrontOnce.{front-tree}
+use Rattle.edge_laws.proofs.Ranked.{AreApart-ranked, AreWithin-ranked}
+use Rattle.edge_laws.proofs.Saliencies.{saliency-is}
 use Rattle.energy_cut.proofs.Chosen.{least-is}
 use Rattle.extinction.specs.Hierarchy.{hierarchy_of}
 use Rattle.extinction.specs.declared.kind.Kind.{Kind}

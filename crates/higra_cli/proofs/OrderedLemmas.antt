@@ -1,12 +1,12 @@
 -- The tree of a graph, and the texts of reports about it.
 use Rattle.std.proofs.Common.{◌≡◌, ◌≤◌, [], length, refl, sym, subst, arith}
 use Rattle.hg_base.specs.Graph.{WeightedGraph, IsGraph, first_end, second_end}
-use Rattle.hg_base.specs.Rank.{ranked}
-use Rattle.hg_base.specs.Saliencies.{saliency}
-use Rattle.hg_base.specs.Tree.{ParentTree, graph_tree}
-use Rattle.hg_base.proofs.Levels.{level-tree}
-use Rattle.hg_base.proofs.Ranked.{AreApart-ranked, AreByWeight-ranked, AreWithin-ranked, ends-within}
-use Rattle.hg_base.proofs.Saliencies.{saliency-is}
+use Rattle.edge_laws.specs.Rank.{ranked}
+use Rattle.edge_laws.specs.Saliencies.{saliency}
+use Rattle.tree_laws.specs.Tree.{ParentTree, graph_tree}
+use Rattle.tree_laws.proofs.Levels.{level-tree}
+use Rattle.edge_laws.proofs.Ranked.{AreApart-ranked, AreByWeight-ranked, AreWithin-ranked, ends-within}
+use Rattle.edge_laws.proofs.Saliencies.{saliency-is}
 use Rattle.partition_tree.specs.Forest.{IsForest}
 use Rattle.partition_tree.proofs.PathLemmas.{common-shares}
 use Rattle.saliency.specs.Values.{EndsShareRoots}

@@ -5,15 +5,15 @@ use Rattle.std.proofs.lemmas.Bool.{le-leb}
 use Rattle.std.proofs.lemmas.List.FromFn.{get_or-map-range_with_len, length-map-range_with_len}
 use Rattle.std.proofs.lemmas.List.Sums.{fold_more, sum_by_more}
 use Rattle.std.proofs.lemmas.Option.{unwrap_or-slice_get}
-use Rattle.hg_base.specs.Edges.{ListedEdge, Joined}
+use Rattle.edge_laws.specs.Edges.{ListedEdge, Joined}
 use Rattle.hg_base.specs.Graph.{WeightedGraph, first_end, second_end, weight}
-use Rattle.hg_base.specs.Rank.{listed, rank, ranked}
-use Rattle.hg_base.specs.Saliencies.{saliencies, saliency}
-use Rattle.hg_base.specs.Saliency.{at_most}
-use Rattle.hg_base.specs.Tree.{ParentTree, altitude}
-use Rattle.hg_base.proofs.Members.{IsIn-filter}
-use Rattle.hg_base.proofs.Ranked.{IsIn-ranked}
-use Rattle.hg_base.proofs.Saliencies.{saliency-is}
+use Rattle.edge_laws.specs.Rank.{listed, rank, ranked}
+use Rattle.edge_laws.specs.Saliencies.{saliencies, saliency}
+use Rattle.edge_laws.specs.Saliency.{at_most}
+use Rattle.tree_laws.specs.Tree.{ParentTree, altitude}
+use Rattle.hg_base.proofs.Lists.{IsIn-filter}
+use Rattle.edge_laws.proofs.Ranked.{IsIn-ranked}
+use Rattle.edge_laws.proofs.Saliencies.{saliency-is}
 use Rattle.partition_tree.specs.Forest.{IsForest, nodes}
 use Rattle.higra_cli.specs.Summary.{greatest}
 

@@ -1,7 +1,8 @@
 -- What the altitudes of the nodes of a tree are.
 use Rattle.std.specs.Prelude.{◌≡◌, ℕ, ◌<◌, ◌≤◌, length}
-use Rattle.hg_base.specs.Edges.{ListedEdge, EdgeList, IsIn, joins}
-use Rattle.hg_base.specs.Tree.{ParentTree, altitude, IsAbove}
+use Rattle.edge_laws.specs.Edges.{ListedEdge, EdgeList, joins}
+use Rattle.hg_base.specs.Lists.{IsIn}
+use Rattle.tree_laws.specs.Tree.{ParentTree, altitude, IsAbove}
 
 -- e is the joining edge of highest rank between leaves below node i
 pub record IsLastJoining (t : ParentTree) (s : EdgeList) (i : ℕ) (e : ListedEdge) : Type 0 where

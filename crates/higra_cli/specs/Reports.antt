@@ -17,10 +17,10 @@ use Rattle.extinction.specs.Survivors.{extinctions_of}
 use Rattle.extinction.specs.declared.kind.Kind.{Kind}
 use Rattle.hg_base.specs.Graph.{WeightedGraph}
 use Rattle.hg_base.specs.Labels.{Labelling, labelling}
-use Rattle.hg_base.specs.Levels.{shares}
-use Rattle.hg_base.specs.Tree.{ParentTree, graph_tree}
-use Rattle.hg_base.specs.Zones.{zones_of}
-use Rattle.hg_base.specs.Saliencies.{saliencies}
+use Rattle.tree_laws.specs.Levels.{shares}
+use Rattle.tree_laws.specs.Tree.{ParentTree, graph_tree}
+use Rattle.tree_laws.specs.Zones.{zones_of}
+use Rattle.edge_laws.specs.Saliencies.{saliencies}
 use Rattle.hg_base.specs.declared.fault.InputFault.{InputFault}
 use Rattle.hg_base.specs.declared.fault.FaultKind.TheVariants.{NotAPicture, TooManyLabels, TooManyTiles}
 use Rattle.label_writer.specs.Report.{labels_picture, labels_report}

@@ -8,12 +8,12 @@ use Rattle.energy_cut.specs.Cuts.{IsLeastCut}
 use Rattle.extinction.specs.Hierarchy.{hierarchy_of}
 use Rattle.extinction.specs.declared.kind.Kind.{Kind}
 use Rattle.hg_base.specs.Graph.{WeightedGraph}
-use Rattle.hg_base.specs.Levels.{Shares}
+use Rattle.tree_laws.specs.Levels.{Shares}
 use Rattle.hg_base.specs.Outside.{Rose, AppendsPrefix}
-use Rattle.hg_base.specs.Rank.{ranked}
-use Rattle.hg_base.specs.Tree.{IsFrontTree, ParentTree, graph_tree}
-use Rattle.hg_base.specs.Saliency.{IsSaliency}
-use Rattle.hg_base.specs.Saliencies.{saliency}
+use Rattle.edge_laws.specs.Rank.{ranked}
+use Rattle.tree_laws.specs.Tree.{IsFrontTree, ParentTree, graph_tree}
+use Rattle.edge_laws.specs.Saliency.{IsSaliency}
+use Rattle.edge_laws.specs.Saliencies.{saliency}
 use Rattle.hg_base.specs.declared.fault.InputFault.{InputFault}
 use Rattle.merge_board.specs.Seats.{ReceiptState}
 use Rattle.pgm_reader.specs.Generator.{made}

@@ -1,10 +1,10 @@
 -- The summary of a graph: counts and sums of what the other reports write one by one.
 use Rattle.std.specs.Prelude.{ℕ, List, [], ◌∷◌, ◌++◌, codes, fold, length, max, sum}
 use Rattle.hg_base.specs.Graph.{WeightedGraph}
-use Rattle.hg_base.specs.Saliencies.{saliencies}
+use Rattle.edge_laws.specs.Saliencies.{saliencies}
 use Rattle.hg_base.specs.Text.{headed_line}
-use Rattle.hg_base.specs.Tree.{graph_tree}
-use Rattle.hg_base.specs.Zones.{zones_of}
+use Rattle.tree_laws.specs.Tree.{graph_tree}
+use Rattle.tree_laws.specs.Zones.{zones_of}
 use Rattle.partition_tree.specs.Forest.{nodes}
 use Rattle.watershed_cut.specs.Forest.{forest}
 use Rattle.watershed_cut.specs.MinimumLabels.{minima_of}

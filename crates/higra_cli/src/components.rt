@@ -4,7 +4,7 @@ ghost use Rattle.component_tree.specs.Components.{IsComponentTree};
 ghost use Rattle.component_tree.specs.MinTree.{component_tree_of, value_at};
 ghost use Rattle.component_tree.specs.Report.{components_report};
 ghost use Rattle.component_tree.specs.Weighed.{weighed_graph};
-ghost use Rattle.hg_base.specs.Rank.{ranked};
+ghost use Rattle.edge_laws.specs.Rank.{ranked};
 ghost use Rattle.higra_cli.specs.Inputs.{graph_of};
 ghost use Rattle.higra_cli.specs.Reports.{IsReportIn, component_side, receipt_of};
 ghost use Rattle.graph_hierarchy.specs.Hierarchies.{IsTreeOf};

@@ -1,7 +1,7 @@
 // Drawing a report as a picture.
 ghost use Rattle.std.specs.Prelude.{◌≡◌, ◌*◌, true, IfOk, length};
 ghost use Rattle.edge_order.specs.Order.{order_of};
-ghost use Rattle.hg_base.specs.Tree.{graph_tree};
+ghost use Rattle.tree_laws.specs.Tree.{graph_tree};
 ghost use Rattle.pgm_reader.specs.Grid as grid;
 ghost use Rattle.watershed_cut.specs.Watershed.{watershed_of};
 ghost use Rattle.higra_cli.specs.Drawing.{AreDrawn, IsDrawn};

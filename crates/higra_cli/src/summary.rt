@@ -1,7 +1,7 @@
 // The summary of a graph.
 ghost use Rattle.std.specs.Prelude.{◌≡◌, ◌<◌, ◌≤◌, IfOk, get_or, length, max, sum};
 ghost use Rattle.edge_order.specs.Order.{order_of};
-ghost use Rattle.hg_base.specs.Saliencies.{saliencies};
+ghost use Rattle.edge_laws.specs.Saliencies.{saliencies};
 ghost use Rattle.graph_hierarchy.specs.Hierarchies.{IsTreeOf};
 ghost use Rattle.higra_cli.specs.Summary.{greatest, summary_of, summary_report};
 

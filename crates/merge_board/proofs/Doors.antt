@@ -1,9 +1,8 @@
 -- Which parts share a word of the board.
 use Rattle.std.proofs.Common.{◌≡◌, ◌≢◌, ℕ, ◌+◌, ◌-◌, ◌<◌, ◌≤◌, ◌⊎◌, inl, inr, refl, sym, ◌∙◌, subst, ap, arith}
 use Rattle.std.proofs.lemmas.Bool.{cases_eq}
-use Rattle.tile_plan.specs.Plan.{TilePlan, IsPlan, tile_count, root, mother, weight, left, right, sibling}
+use Rattle.tile_plan.specs.Plan.{TilePlan, IsPlan, tile_count, root, mother, weight, left, right, sibling, grid_of}
 use Rattle.tile_plan.specs.Laws.{HasMother}
-use Rattle.tile_plan.specs.Plan.{grid_of}
 use Rattle.tile_plan.specs.Grids.{tree_in}
 use Rattle.tile_plan.proofs.Cuts.{tiles-some}
 use Rattle.tile_plan.proofs.Mothers.{has_mother, plan-tiles}

@@ -1,25 +1,24 @@
 -- What the conditions of building and joining parts ask, from what fits a plan.
 use Rattle.std.proofs.Common.{◌≡◌, ◌≢◌, ℕ, ◌+◌, ◌-◌, ◌*◌, ◌<◌, ◌≤◌, ◌⊎◌, inl, inr, refl, sym, ◌∙◌, subst, ap, arith, List, [], ◌∷◌, ◌++◌, length, map}
-use Rattle.hg_base.specs.Edges.{ListedEdge, EdgeList, IsIn, AreApart}
-use Rattle.hg_base.specs.Placed.{placed}
+use Rattle.edge_laws.specs.Edges.{ListedEdge, EdgeList, AreApart}
+use Rattle.hg_base.specs.Lists.{IsIn}
+use Rattle.edge_laws.specs.Placed.{placed}
 use Rattle.node_region.specs.Pool.{count, IsCovered, IsNextTo}
 use Rattle.border_climb.specs.Stands.{PartState, Stands}
 use Rattle.border_climb.specs.Parts.{IsLot, CanJoin, listed}
 use Rattle.hg_base.specs.declared.graph.PlacedEdge.{PlacedEdge}
-use Rattle.tile_plan.specs.Plan.{TilePlan, IsPlan, IsPlaceOf, tile_count, part_count, left, right, first_place, end_place, first_tile, tiles_of, lot_edges, edges_at, room_tiles, start}
+use Rattle.tile_plan.specs.Plan.{TilePlan, IsPlan, IsPlaceOf, tile_count, part_count, left, right, first_place, end_place, first_tile, tiles_of, lot_edges, edges_at, room_tiles, start, part}
 use Rattle.tile_plan.specs.Laws.{HasHalves, JoinsHalves, IsSomewhere, IsTile, HasEdges, Crosses}
 use Rattle.tile_plan.proofs.Mothers.{has_halves}
-use Rattle.tile_plan.proofs.Ranges.{is_somewhere, is_tile}
+use Rattle.tile_plan.proofs.Ranges.{is_somewhere, is_tile, start-rises}
 use Rattle.tile_plan.proofs.Edges.{joins_halves, crosses, has_edges}
 use Rattle.hg_base.specs.declared.graph.Room.{Room}
-use Rattle.hg_base.proofs.Components.{IsIn-append, IsIn-append_back}
+use Rattle.hg_base.proofs.Lists.{IsIn-append, IsIn-append_back}
 use Rattle.std.proofs.lemmas.List.{length-append}
 use Rattle.tile_plan.specs.Merges.{MergeTree, Tile, Merge, tiles, merges}
 use Rattle.tile_plan.specs.Sites.{post_order, left_site, right_site}
 use Rattle.tile_plan.specs.declared.site.Site.{Site}
-use Rattle.tile_plan.specs.Plan.{part}
 use Rattle.tile_plan.proofs.Cuts.{tiles-merges}
-use Rattle.tile_plan.proofs.Ranges.{start-rises}
 use Rattle.merge_board.specs.Fits.{Fits, Opened, IsFitting, IsOpened, IsShapedFor}
 
 -- the two definitions, opened

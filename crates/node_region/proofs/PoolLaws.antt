@@ -5,9 +5,9 @@ use Rattle.std.proofs.lemmas.List.{length-set, length-replicate, get_or-replicat
 use Rattle.std.proofs.lemmas.List.Sums.{sum_by-set, sum_by-append}
 use Rattle.std.proofs.lemmas.List.Folds.{sum_by-replicate}
 use Rattle.std.proofs.lemmas.List.FromFn.{length-range_with_len}
-use Rattle.hg_base.specs.Edges.{IsIn}
+use Rattle.hg_base.specs.Lists.{IsIn}
 use Rattle.hg_base.specs.declared.graph.Room.{Room}
-use Rattle.hg_base.proofs.Components.{IsIn-append, IsIn-append_back}
+use Rattle.hg_base.proofs.Lists.{IsIn-append, IsIn-append_back}
 use Rattle.node_region.specs.declared.cell.Cell.{Cell}
 use Rattle.node_region.specs.declared.cell.Hint.{Hint}
 use Rattle.node_region.specs.Pool.{CellPool, IsPool, IsCovered, IsUsed, IsNextTo, AreDifferent, cell_at, entry, fresh_pool, with_cell, with_taken, with_given_back, with_leaf, with_hint, with_finger, appended, next_turn, turn_of}

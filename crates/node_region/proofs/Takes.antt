@@ -1,7 +1,7 @@
 -- What a region is seen as after a number was taken or given back.
 use Rattle.std.proofs.Common.{◌≡◌, ◌≢◌, ℕ, zero, suc, ◌+◌, ◌-◌, ◌≤◌, inl, inr, List, ◌∷◌, set, map, drop, is_none, Some, None, refl, sym, ap, ◌∙◌, subst, add-one, arith}
 use Rattle.std.proofs.lemmas.List.{length-map, get_or-map}
-use Rattle.hg_base.specs.Edges.{IsIn}
+use Rattle.hg_base.specs.Lists.{IsIn}
 use Rattle.node_region.specs.declared.cell.Cell.{Cell}
 use Rattle.node_region.specs.declared.chunk.Slot.{Slot}
 use Rattle.node_region.specs.declared.chunk.FreeList.{FreeList}

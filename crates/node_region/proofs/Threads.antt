@@ -2,8 +2,8 @@
 use Rattle.std.proofs.Common.{◌≡◌, ◌≢◌, ℕ, zero, suc, ◌+◌, ◌-◌, ◌<◌, ◌≤◌, inl, inr, List, [], ◌∷◌, ◌++◌, length, refl, sym, ap, ◌∙◌, subst, zero-add, arith}
 use Rattle.std.proofs.lemmas.Bool.{cases_eq}
 use Rattle.std.specs.List.{range_with_len}
-use Rattle.hg_base.specs.Edges.{IsIn}
-use Rattle.hg_base.proofs.Components.{IsIn-append, IsIn-append_back}
+use Rattle.hg_base.specs.Lists.{IsIn}
+use Rattle.hg_base.proofs.Lists.{IsIn-append, IsIn-append_back}
 use Rattle.node_region.specs.Pool.{AreDifferent}
 use Rattle.node_region.specs.Tables.{next_of, thread, told_after}
 

@@ -1,7 +1,7 @@
 -- What a region is seen as after the entry of a number or of a place was written.
 use Rattle.std.proofs.Common.{◌≡◌, ◌≢◌, ℕ, ◌+◌, ◌-◌, ◌<◌, ◌≤◌, List, get_or, set, map, Option, Some, None, nat_le, ◌==◌, if◌then◌else◌, Bool, true, false, refl, sym, ap, ◌∙◌, subst, arith}
 use Rattle.std.proofs.lemmas.List.{length-map, get_or-map}
-use Rattle.hg_base.specs.Edges.{IsIn}
+use Rattle.hg_base.specs.Lists.{IsIn}
 use Rattle.node_region.specs.declared.cell.Cell.{Cell}
 use Rattle.node_region.specs.declared.cell.Hint.{Hint}
 use Rattle.node_region.specs.declared.chunk.Slot.{Slot}

@@ -1,6 +1,6 @@
 -- What a write into the tables leaves as it was, and what it is to put one list of free numbers behind another.
 use Rattle.std.specs.Prelude.{◌≡◌, ℕ, ◌+◌, ◌<◌, ◌≤◌, ◌++◌, length, map, None, vec_capacity}
-use Rattle.hg_base.specs.Edges.{IsIn}
+use Rattle.hg_base.specs.Lists.{IsIn}
 use Rattle.node_region.specs.Pool.{AreDifferent, entry}
 use Rattle.node_region.specs.Tables.{slots_of, places_of, cells_in, hint_kept, free_in, IsTail}
 use Rattle.node_region.specs.declared.chunk.FreeList.{FreeList}

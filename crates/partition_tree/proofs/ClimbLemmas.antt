@@ -2,8 +2,7 @@
 use Rattle.std.proofs.Common.{◌≡◌, ◌≢◌, ℕ, zero, suc, ◌+◌, ◌<◌, ◌≤◌, ◌⊎◌, inl, inr, refl, sym, ◌∙◌, subst, ap, arith, List, length, get_or, set, get_or-set_same, get_or-set_other}
 use Rattle.std.proofs.lemmas.List.{length-set}
 use Rattle.std.proofs.lemmas.Bool.Decides.{eqb_tells}
-use Rattle.hg_base.specs.Tree.{ParentTree, parent, ancestor, IsAbove}
-use Rattle.hg_base.specs.Saliency.{IsLowestAbove}
+use Rattle.tree_laws.specs.Tree.{ParentTree, parent, ancestor, IsAbove, IsLowestAbove}
 use Rattle.partition_tree.specs.Forest.{nodes, IsForest}
 use Rattle.partition_tree.specs.Paths.{IsCommon}
 use Rattle.partition_tree.specs.Climbs.{depth, jump, AreClimbs, AreClimbsFrom, IsClimbOf, GoesOn}

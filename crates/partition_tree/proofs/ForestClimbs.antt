@@ -1,7 +1,7 @@
 -- What a forest is in the words of the base crate.
 use Rattle.std.proofs.Common.{◌≡◌, ◌+◌, ◌≤◌, arith, length}
-use Rattle.hg_base.specs.Tree.{ParentTree}
-use Rattle.hg_base.specs.Levels.{IsClimbing}
+use Rattle.tree_laws.specs.Tree.{ParentTree}
+use Rattle.tree_laws.specs.Levels.{IsClimbing}
 use Rattle.partition_tree.specs.Forest.{IsForest}
 
 -- no link of a forest leads down

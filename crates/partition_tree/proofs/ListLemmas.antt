@@ -7,9 +7,10 @@ use Rattle.std.proofs.lemmas.Bool.{cases_order}
 use Rattle.std.proofs.lemmas.Option.{slice_get_cases, slice_get-get_or}
 use Rattle.std.proofs.lemmas.List.Elements.{All-get_or}
 use Rattle.std.proofs.lemmas.List.FromFn.{length-map-range_with_len}
-use Rattle.hg_base.specs.Edges.{ListedEdge, IsIn, AreApart, AreWithin}
-use Rattle.hg_base.specs.Saliency.{AreByWeight}
-use Rattle.hg_base.specs.Placed.{placed}
+use Rattle.edge_laws.specs.Edges.{ListedEdge, AreApart, AreWithin}
+use Rattle.hg_base.specs.Lists.{IsIn}
+use Rattle.edge_laws.specs.Saliency.{AreByWeight}
+use Rattle.edge_laws.specs.Placed.{placed}
 use Rattle.partition_tree.specs.declared.list.Ranked.{Ranked}
 use Rattle.partition_tree.specs.Ranked.{JoinsTwo, IsRankedList, edge_at, edges_of}
 

@@ -2,8 +2,8 @@
 use Rattle.std.proofs.Common.{◌≡◌, ℕ, sym, ◌∙◌, subst, ap, arith, List, ◌++◌, length, map}
 use Rattle.std.specs.Prelude.{replicate}
 use Rattle.std.specs.List.{range_with_len}
-use Rattle.hg_base.specs.Edges.{ListedEdge, next}
-use Rattle.hg_base.specs.Tree.{ParentTree, tree_of, node_or}
+use Rattle.edge_laws.specs.Edges.{ListedEdge, next}
+use Rattle.tree_laws.specs.Tree.{ParentTree, tree_of, node_or}
 use Rattle.node_region.specs.Pool.{leaf_of, count}
 use Rattle.border_climb.specs.Stands.{PartState, Stands}
 use Rattle.partition_tree.specs.declared.list.Ranked.{Ranked}

@@ -2,7 +2,7 @@
 use Rattle.std.proofs.Common.{◌≡◌, ℕ, zero, suc, ◌+◌, ◌≤◌, Bool, true, false, cond, List, [], ◌∷◌, ◌++◌, ◌∙◌, ap, arith, add-one, append_assoc, append-nil}
 use Rattle.std.specs.Prelude.{count_by}
 use Rattle.hg_base.specs.Text.{line}
-use Rattle.hg_base.specs.Tree.{ParentTree, parent, altitude}
+use Rattle.tree_laws.specs.Tree.{ParentTree, parent, altitude}
 use Rattle.partition_tree.specs.Report.{node_line}
 use Rattle.std.specs.List.{range_with_len, flat_map}
 use Rattle.std.proofs.lemmas.List.Sums.{sum_by-append, count_by-le-length}

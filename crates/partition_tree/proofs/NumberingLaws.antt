@@ -4,15 +4,16 @@ use Rattle.std.specs.Prelude.{Option, Some, None, slice_get}
 use Rattle.std.specs.List.{range_with_len}
 use Rattle.std.proofs.lemmas.Option.{slice_get_within}
 use Rattle.std.proofs.lemmas.Bool.{le-ltb}
-use Rattle.hg_base.specs.Edges.{ListedEdge, EdgeList, IsIn, below, joins, chain, next}
-use Rattle.hg_base.specs.Placed.{ranks}
-use Rattle.hg_base.specs.Tree.{place, node_or}
-use Rattle.hg_base.proofs.Sets.{IsIn-joins, IsIn-joins_kept, IsRising-joins}
-use Rattle.hg_base.proofs.Fronts.{apart-one}
-use Rattle.hg_base.proofs.Paths.{leaving-joins}
-use Rattle.hg_base.proofs.Nodes.{joins-at, joins-index}
-use Rattle.hg_base.proofs.BelowRanks.{below-found, below-missing, below-whole}
-use Rattle.hg_base.proofs.Ends.{next-is}
+use Rattle.edge_laws.specs.Edges.{ListedEdge, EdgeList, below, joins, chain, next}
+use Rattle.hg_base.specs.Lists.{IsIn}
+use Rattle.edge_laws.specs.Placed.{ranks}
+use Rattle.tree_laws.specs.Tree.{place, node_or}
+use Rattle.edge_laws.proofs.Sets.{IsIn-joins, IsIn-joins_kept, IsRising-joins}
+use Rattle.edge_laws.proofs.Fronts.{apart-one}
+use Rattle.tree_laws.proofs.Paths.{leaving-joins}
+use Rattle.tree_laws.proofs.Nodes.{joins-at, joins-index}
+use Rattle.edge_laws.proofs.BelowRanks.{below-found, below-missing, below-whole}
+use Rattle.edge_laws.proofs.Ends.{next-is}
 use Rattle.node_region.specs.Pool.{CellPool, IsCovered, leaf_of, count}
 use Rattle.border_climb.specs.Stands.{PartState, IsClimb, Stands}
 use Rattle.border_climb.specs.Linked.{HasRank, Points, AreLinked}

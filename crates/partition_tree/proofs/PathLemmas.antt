@@ -4,9 +4,8 @@ use Rattle.std.specs.Prelude.{◌↔◌, Option, Some, None, MatchOption, unwrap
 use Rattle.std.proofs.lemmas.Option.{slice_get_past}
 use Rattle.std.proofs.lemmas.Bool.{cases_order}
 use Rattle.std.proofs.lemmas.Bool.Decides.{eqb_tells}
-use Rattle.hg_base.specs.Tree.{ParentTree, parent, ancestor, IsAbove}
+use Rattle.tree_laws.specs.Tree.{ParentTree, parent, ancestor, IsAbove, IsLowestAbove}
 use Rattle.partition_tree.specs.Forest.{nodes, IsForest}
-use Rattle.hg_base.specs.Saliency.{IsLowestAbove}
 use Rattle.partition_tree.specs.Paths.{Rises, stop, IsRootOf, ShareRoot, IsCommon}
 
 -- links further up, one walk after the other

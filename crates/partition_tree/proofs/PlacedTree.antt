@@ -3,10 +3,11 @@ use Rattle.std.proofs.Common.{◌≡◌, ℕ, suc, ◌+◌, ◌<◌, inl, inr, r
 use Rattle.std.specs.Prelude.{Option, Some, None, option_map, filter, nat_le, nat_lt, replicate}
 use Rattle.std.specs.List.{range_with_len}
 use Rattle.std.proofs.lemmas.List.{length-map}
-use Rattle.hg_base.specs.Edges.{ListedEdge, EdgeList, IsIn, below, joins, first_edge, next, renamed_edge, renamed}
-use Rattle.hg_base.specs.Tree.{place, node_or, tree_of}
-use Rattle.hg_base.proofs.Sets.{joins-same, chain-same, IsIn-joins_kept}
-use Rattle.hg_base.proofs.Renaming.{filter-mapped, joins-renamed, next-renamed}
+use Rattle.edge_laws.specs.Edges.{ListedEdge, EdgeList, below, joins, first_edge, next, renamed_edge, renamed}
+use Rattle.hg_base.specs.Lists.{IsIn}
+use Rattle.tree_laws.specs.Tree.{place, node_or, tree_of}
+use Rattle.edge_laws.proofs.Sets.{joins-same, chain-same, IsIn-joins_kept}
+use Rattle.edge_laws.proofs.Renaming.{filter-mapped, joins-renamed, next-renamed}
 use Rattle.partition_tree.specs.Forest.{lists_of}
 use Rattle.partition_tree.specs.Numbering.{IsPlacing, placed_tree}
 use Rattle.partition_tree.proofs.NumberingLaws.{range-agree}

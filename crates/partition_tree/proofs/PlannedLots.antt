@@ -1,7 +1,8 @@
 -- The lots of a plan are those that parts can take in.
 use Rattle.std.proofs.Common.{◌≡◌, ◌≢◌, ℕ, ◌-◌, ◌<◌, ◌≤◌, inl, inr, refl, sym, ◌∙◌, subst, ap, arith, [], ◌∷◌, ◌++◌, map}
-use Rattle.hg_base.specs.Edges.{ListedEdge, EdgeList, IsIn, AreApart}
-use Rattle.hg_base.specs.Placed.{placed}
+use Rattle.edge_laws.specs.Edges.{ListedEdge, EdgeList, AreApart}
+use Rattle.hg_base.specs.Lists.{IsIn}
+use Rattle.edge_laws.specs.Placed.{placed}
 use Rattle.hg_base.specs.declared.graph.PlacedEdge.{PlacedEdge}
 use Rattle.node_region.specs.Pool.{CellPool, count, IsCovered}
 use Rattle.border_climb.specs.Stands.{PartState, Stands}

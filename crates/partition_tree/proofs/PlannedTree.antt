@@ -5,11 +5,12 @@ use Rattle.std.specs.Option.{option_map_or}
 use Rattle.std.specs.List.{range_with_len}
 use Rattle.std.proofs.lemmas.List.FromFn.{length-map-range_with_len}
 use Rattle.hg_base.specs.Graph.{WeightedGraph}
-use Rattle.hg_base.specs.Rank.{listed, number_at, ranked}
-use Rattle.hg_base.specs.Edges.{ListedEdge, EdgeList, IsIn, next}
-use Rattle.hg_base.specs.Tree.{ParentTree, tree_of, node_or, IsFrontTree}
-use Rattle.hg_base.proofs.FrontOnce.{front-tree}
-use Rattle.hg_base.proofs.Ranked.{ranked-at}
+use Rattle.edge_laws.specs.Rank.{listed, number_at, ranked}
+use Rattle.edge_laws.specs.Edges.{ListedEdge, EdgeList, next}
+use Rattle.hg_base.specs.Lists.{IsIn}
+use Rattle.tree_laws.specs.Tree.{ParentTree, tree_of, node_or, IsFrontTree}
+use Rattle.tree_laws.proofs.FrontOnce.{front-tree}
+use Rattle.edge_laws.proofs.Ranked.{ranked-at}
 use Rattle.node_region.specs.Pool.{count, leaf_of}
 use Rattle.border_climb.specs.Stands.{PartState, Stands}
 use Rattle.border_climb.specs.Splicing.{rank_of}

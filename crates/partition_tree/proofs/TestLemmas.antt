@@ -1,6 +1,6 @@
 -- The lists of a small tree.
 use Rattle.std.proofs.Common.{◌≡◌, ℕ, zero, suc, ◌<◌, ◌≤◌, refl, arith, [], ◌∷◌}
-use Rattle.hg_base.specs.Tree.{parent, altitude}
+use Rattle.tree_laws.specs.Tree.{parent, altitude}
 use Rattle.partition_tree.specs.Forest.{IsForest, lists_of}
 
 -- two leaves and a root

@@ -2,14 +2,15 @@
 use Rattle.std.proofs.Common.{◌≡◌, ◌≢◌, ℕ, ◌+◌, ◌<◌, ◌≤◌, inl, inr, refl, sym, ◌∙◌, ap, arith, length, map, length-append}
 use Rattle.std.specs.Prelude.{replicate}
 use Rattle.std.proofs.lemmas.List.{length-map, length-replicate}
-use Rattle.hg_base.specs.Edges.{ListedEdge, EdgeList, AreApart, AreWithin, joined, joins, components, is_least, count_below}
-use Rattle.hg_base.specs.Tree.{parent, altitude, place, tree_of}
-use Rattle.hg_base.specs.Saliency.{AreByWeight}
-use Rattle.hg_base.proofs.Sets.{IsIn-joins_kept}
-use Rattle.hg_base.proofs.Components.{joins-count}
-use Rattle.hg_base.proofs.Nodes.{length-parents}
-use Rattle.hg_base.proofs.Meeting.{altitude-leaf, altitude-inner}
-use Rattle.hg_base.proofs.TreeNodes.{made-within, HasParent, node-cases, leaf-parent, made-parent}
+use Rattle.edge_laws.specs.Edges.{ListedEdge, EdgeList, AreApart, AreWithin, joined, joins, components}
+use Rattle.hg_base.specs.Counting.{is_least, count_below}
+use Rattle.tree_laws.specs.Tree.{parent, altitude, place, tree_of}
+use Rattle.edge_laws.specs.Saliency.{AreByWeight}
+use Rattle.edge_laws.proofs.Sets.{IsIn-joins_kept}
+use Rattle.edge_laws.proofs.Components.{joins-count}
+use Rattle.tree_laws.proofs.Nodes.{length-parents}
+use Rattle.tree_laws.proofs.Meeting.{altitude-leaf, altitude-inner}
+use Rattle.tree_laws.proofs.TreeNodes.{made-within, HasParent, node-cases, leaf-parent, made-parent}
 use Rattle.partition_tree.specs.Forest.{nodes, IsForest}
 use Rattle.partition_tree.proofs.ChildLemmas.{count-less}
 

@@ -9,8 +9,9 @@ use Rattle.std.proofs.lemmas.List.FromFn.{length-range_with_len, get_or-range_wi
 use Rattle.std.proofs.lemmas.List.Elements.{Contains-get_or}
 use Rattle.std.proofs.lemmas.List.Sorted.{IsPermutation-sym, Contains-permutation, length_permutation}
 use Rattle.std.proofs.lemmas.Map.Keys.{IsDistinct-IsPermutation, IsDistinct-from_apart, apart_from_distinct}
-use Rattle.hg_base.specs.Placed.{placed}
-use Rattle.hg_base.specs.Edges.{ListedEdge, EdgeList, IsIn, IsSameSet}
+use Rattle.edge_laws.specs.Placed.{placed}
+use Rattle.edge_laws.specs.Edges.{ListedEdge, EdgeList, IsSameSet}
+use Rattle.hg_base.specs.Lists.{IsIn}
 use Rattle.border_climb.specs.Stands.{PartState, Stands, IsNewRank}
 use Rattle.border_climb.proofs.Lots.{stands-same}
 use Rattle.partition_tree.specs.declared.list.Ranked.{Ranked}

@@ -1,6 +1,6 @@
 -- What a tree keeps so that its paths are climbed in few steps.
 use Rattle.std.specs.Prelude.{◌≡◌, ◌≢◌, ℕ, ◌+◌, ◌<◌, ◌≤◌, List, length, slice_index}
-use Rattle.hg_base.specs.Tree.{ParentTree, parent, IsAbove}
+use Rattle.tree_laws.specs.Tree.{ParentTree, parent, IsAbove}
 use Rattle.partition_tree.specs.Forest.{nodes, IsForest}
 use Rattle.partition_tree.specs.Paths.{IsCommon}
 

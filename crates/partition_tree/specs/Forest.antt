@@ -1,7 +1,7 @@
 -- What every tree keeps to.
 use Rattle.std.specs.Prelude.{◌≡◌, ◌≢◌, ℕ, ◌+◌, ◌<◌, ◌≤◌, List, length, count_by, ◌==◌}
 use Rattle.std.specs.List.{range_with_len}
-use Rattle.hg_base.specs.Tree.{ParentTree, parent, altitude}
+use Rattle.tree_laws.specs.Tree.{ParentTree, parent, altitude}
 
 -- the tree with these lists
 abbrev pub lists_of : ℕ → List ℕ → List ℕ → List ℕ → ParentTree

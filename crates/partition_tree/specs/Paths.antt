@@ -1,6 +1,6 @@
 -- Paths up a tree: roots, and nodes above two others.
 use Rattle.std.specs.Prelude.{◌≡◌, ℕ, zero, suc, ◌≤◌, ◌==◌, if◌then◌else◌}
-use Rattle.hg_base.specs.Tree.{ParentTree, parent, IsAbove}
+use Rattle.tree_laws.specs.Tree.{ParentTree, parent, IsAbove}
 
 -- no link leads down
 abbrev pub Rises : ParentTree → Type 0

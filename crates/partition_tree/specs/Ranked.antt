@@ -2,7 +2,7 @@
 use Rattle.std.specs.Prelude.{◌≢◌, ℕ, ◌<◌, ◌≤◌, List, length, map, All, slice_get}
 use Rattle.std.specs.Option.{option_map_or}
 use Rattle.std.specs.List.{range_with_len}
-use Rattle.hg_base.specs.Edges.{ListedEdge, EdgeList}
+use Rattle.edge_laws.specs.Edges.{ListedEdge, EdgeList}
 use Rattle.std.specs.List.Sorted.{IsNonDecreasingBy}
 use Rattle.partition_tree.specs.declared.list.Ranked.{Ranked}
 

@@ -2,7 +2,7 @@
 use Rattle.std.specs.Prelude.{ℕ, List, [], ◌∷◌, ◌++◌, codes}
 use Rattle.std.specs.List.{range_with_len, flat_map}
 use Rattle.hg_base.specs.Text.{line, headed_line}
-use Rattle.hg_base.specs.Tree.{ParentTree, parent, altitude}
+use Rattle.tree_laws.specs.Tree.{ParentTree, parent, altitude}
 use Rattle.partition_tree.specs.Forest.{nodes}
 
 -- a node's line: its number, its parent and its altitude

@@ -1,5 +1,5 @@
 -- What the fields of a tree stand for.
-use Rattle.hg_base.specs.Tree.{ParentTree}
+use Rattle.tree_laws.specs.Tree.{ParentTree}
 use Rattle.partition_tree.specs.declared.tree.Tree.TheInside.{Inside}
 
 abbrev pub tree_of_fields : Inside → ParentTree

@@ -1,5 +1,5 @@
 ghost use Rattle.std.specs.Prelude.{◌≡◌, ◌<◌, IfOk, IfSome, MatchOption};
-ghost use Rattle.hg_base.specs.Saliency.{IsLowestAbove};
+ghost use Rattle.tree_laws.specs.Tree.{IsLowestAbove};
 ghost use Rattle.partition_tree.specs.Forest.{nodes};
 ghost use Rattle.partition_tree.specs.Paths.{ShareRoot};
 
@@ -18,7 +18,7 @@ pub struct Ancestors<'a> {
 }
 
 impl<'a> Model for Ancestors<'a> {
-    ghost use Rattle.hg_base.specs.Tree.{ParentTree};
+    ghost use Rattle.tree_laws.specs.Tree.{ParentTree};
     ghost use Rattle.partition_tree.specs.Climbs.{AreClimbs};
 
     ghost Value = { ParentTree };

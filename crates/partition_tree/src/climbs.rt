@@ -1,6 +1,5 @@
 ghost use Rattle.std.specs.Prelude.{◌≡◌, ◌≢◌, ℕ, ◌+◌, ◌<◌, ◌≤◌, ◌*◌, length, slice_index, MatchOption, IfOk, IfSome, min};
-ghost use Rattle.hg_base.specs.Tree.{parent, IsAbove};
-ghost use Rattle.hg_base.specs.Saliency.{IsLowestAbove};
+ghost use Rattle.tree_laws.specs.Tree.{parent, IsAbove, IsLowestAbove};
 ghost use Rattle.partition_tree.specs.Forest.{nodes};
 ghost use Rattle.partition_tree.specs.Paths.{IsCommon, ShareRoot};
 ghost use Rattle.partition_tree.specs.Climbs.{depth, jump, AreClimbs, AreClimbsFrom, IsClimbOf, GoesOn};

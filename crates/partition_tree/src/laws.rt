@@ -1,9 +1,9 @@
 //! Laws of trees. Each is the contract of a function that does nothing.
 ghost use Rattle.std.specs.Prelude.{◌≡◌, ℕ, ◌≤◌};
-ghost use Rattle.hg_base.specs.Edges.{EdgeList, AreApart, AreWithin};
-ghost use Rattle.hg_base.specs.Tree.{tree_of};
-ghost use Rattle.hg_base.specs.Levels.{AltitudesRise};
-ghost use Rattle.hg_base.specs.Saliency.{AreByWeight};
+ghost use Rattle.edge_laws.specs.Edges.{EdgeList, AreApart, AreWithin};
+ghost use Rattle.tree_laws.specs.Tree.{tree_of};
+ghost use Rattle.tree_laws.specs.Levels.{AltitudesRise};
+ghost use Rattle.edge_laws.specs.Saliency.{AreByWeight};
 ghost use Rattle.partition_tree.specs.Forest.{IsForest};
 ghost use Rattle.partition_tree.specs.Numbering.{IsPlacing, placed_tree};
 

@@ -1,7 +1,7 @@
 ghost use Rattle.std.specs.Prelude.{◌≡◌, ℕ, length, IfOk};
 ghost use Rattle.hg_base.specs.Graph.{WeightedGraph};
-ghost use Rattle.hg_base.specs.Tree.{tree_of, graph_tree, IsFrontTree};
-ghost use Rattle.hg_base.specs.Rank.{ranked};
+ghost use Rattle.tree_laws.specs.Tree.{tree_of, graph_tree, IsFrontTree};
+ghost use Rattle.edge_laws.specs.Rank.{ranked};
 ghost use Rattle.node_region.specs.Pool.{count};
 ghost use Rattle.border_climb.specs.Stands.{Stands};
 ghost use Rattle.edge_order.specs.Order.{order_of, number_at_rank};

@@ -1,7 +1,6 @@
 ghost use Rattle.std.specs.Prelude.{◌≡◌, ◌≢◌, ◌↔◌, ℕ, ◌-◌, ◌<◌, ◌≤◌, slice_get, Some, IfOk, MatchOption, IfSome, IsTrue};
-ghost use Rattle.hg_base.specs.Tree.{parent, altitude};
-ghost use Rattle.hg_base.specs.Levels.{AltitudesRise};
-ghost use Rattle.hg_base.specs.Saliency.{IsLowestAbove};
+ghost use Rattle.tree_laws.specs.Tree.{parent, altitude, IsLowestAbove};
+ghost use Rattle.tree_laws.specs.Levels.{AltitudesRise};
 ghost use Rattle.partition_tree.specs.Forest.{nodes, roots, lists_of, IsForest};
 ghost use Rattle.partition_tree.specs.Paths.{IsCommon, ShareRoot};
 ghost use Rattle.partition_tree.specs.Climbs.{GoesOn};
@@ -23,7 +22,7 @@ pub struct Tree {
 }
 
 impl Model for Tree {
-    ghost use Rattle.hg_base.specs.Tree.{ParentTree};
+    ghost use Rattle.tree_laws.specs.Tree.{ParentTree};
 
     ghost Value = { ParentTree };
 

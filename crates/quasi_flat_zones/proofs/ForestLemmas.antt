@@ -1,15 +1,15 @@
 -- The zones of a forest are a forest.
 use Rattle.std.proofs.Common.{◌≡◌, ℕ, sym, ◌∙◌, subst, ap, arith, length}
 use Rattle.std.proofs.lemmas.List.{length-map}
-use Rattle.hg_base.specs.Edges.{EdgeList, AreApart, AreWithin}
-use Rattle.hg_base.specs.Tree.{ParentTree, altitude, tree_of}
-use Rattle.hg_base.specs.Saliency.{AreByWeight}
-use Rattle.hg_base.specs.Levels.{AltitudesRise, IsLevelTree}
-use Rattle.hg_base.specs.Zones.{keeps, kept, zone_number, next_kept, zones_of, AreZones}
+use Rattle.edge_laws.specs.Edges.{EdgeList, AreApart, AreWithin}
+use Rattle.tree_laws.specs.Tree.{ParentTree, altitude, tree_of}
+use Rattle.edge_laws.specs.Saliency.{AreByWeight}
+use Rattle.tree_laws.specs.Levels.{AltitudesRise, IsLevelTree}
+use Rattle.tree_laws.specs.Zones.{keeps, kept, zone_number, next_kept, zones_of, AreZones}
 use Rattle.hg_base.proofs.Passing.{count_below-most}
-use Rattle.hg_base.proofs.Levels.{level-tree}
-use Rattle.hg_base.proofs.Zones.{length-zones, zones-rise, zones-inner, zones-low, zones-makers}
-use Rattle.hg_base.proofs.ZoneLevels.{zones-are}
+use Rattle.tree_laws.proofs.Levels.{level-tree}
+use Rattle.tree_laws.proofs.Zones.{length-zones, zones-rise, zones-inner, zones-low, zones-makers}
+use Rattle.tree_laws.proofs.ZoneLevels.{zones-are}
 use Rattle.partition_tree.specs.Forest.{IsForest}
 use Rattle.partition_tree.proofs.ForestClimbs.{forest-climbs, forest-leaves}
 

@@ -5,13 +5,13 @@ use Rattle.std.specs.List.{range_with_len}
 use Rattle.std.proofs.lemmas.Bool.{cases_eq}
 use Rattle.std.proofs.lemmas.List.{map-append, get_or-set_same, get_or-set_other}
 use Rattle.std.proofs.lemmas.List.FromFn.{length-map-range_with_len, get_or-map-range_with_len, map-range_with_len_more}
-use Rattle.hg_base.specs.Edges.{count_below}
-use Rattle.hg_base.specs.Tree.{ParentTree, parent}
-use Rattle.hg_base.specs.Levels.{IsClimbing}
-use Rattle.hg_base.specs.Zones.{keeps, zone_number, nearest, maker}
+use Rattle.hg_base.specs.Counting.{count_below}
+use Rattle.tree_laws.specs.Tree.{ParentTree, parent}
+use Rattle.tree_laws.specs.Levels.{IsClimbing}
+use Rattle.tree_laws.specs.Zones.{keeps, zone_number, nearest, maker}
 use Rattle.hg_base.proofs.Passing.{passing, passing-suc}
-use Rattle.hg_base.proofs.Kept.{IsDropped, keeps-false, nearest-kept, nearest-dropped}
-use Rattle.hg_base.proofs.Zones.{high-more}
+use Rattle.tree_laws.proofs.Kept.{IsDropped, keeps-false, nearest-kept, nearest-dropped}
+use Rattle.tree_laws.proofs.Zones.{high-more}
 use Rattle.quasi_flat_zones.specs.Passes.{zone_numbers, AreNearest}
 
 -- the next number passes, and its value is there

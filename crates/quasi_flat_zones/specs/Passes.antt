@@ -1,8 +1,8 @@
 -- What the passes over a tree's nodes give.
 use Rattle.std.specs.Prelude.{◌≡◌, ℕ, ◌<◌, Bool, false, List, length, map, get_or}
 use Rattle.std.specs.List.{range_with_len}
-use Rattle.hg_base.specs.Tree.{ParentTree}
-use Rattle.hg_base.specs.Zones.{keeps, zone_number, nearest}
+use Rattle.tree_laws.specs.Tree.{ParentTree}
+use Rattle.tree_laws.specs.Zones.{keeps, zone_number, nearest}
 
 -- for each node how many kept ones have a lesser number
 abbrev pub zone_numbers : ParentTree → List ℕ

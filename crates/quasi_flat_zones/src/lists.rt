@@ -1,5 +1,5 @@
 ghost use Rattle.std.specs.Prelude.{◌≡◌, IfOk};
-ghost use Rattle.hg_base.specs.Zones.{zones_of};
+ghost use Rattle.tree_laws.specs.Zones.{zones_of};
 ghost use Rattle.partition_tree.specs.Forest.{lists_of, IsForest};
 ghost use Rattle.quasi_flat_zones.specs.Passes.{AreMarked, AreNearest};
 

@@ -1,5 +1,5 @@
 ghost use Rattle.std.specs.Prelude.{◌≡◌, ◌<◌, IfOk};
-ghost use Rattle.hg_base.specs.Zones.{keeps};
+ghost use Rattle.tree_laws.specs.Zones.{keeps};
 ghost use Rattle.partition_tree.specs.Forest.{nodes, IsForest};
 ghost use Rattle.quasi_flat_zones.specs.Passes.{zone_numbers, AreMarked, AreNearest};
 

@@ -1,9 +1,9 @@
 ghost use Rattle.std.specs.Prelude.{◌≡◌, ℕ, IfOk};
-ghost use Rattle.hg_base.specs.Edges.{EdgeList, AreApart, AreWithin};
-ghost use Rattle.hg_base.specs.Tree.{tree_of};
-ghost use Rattle.hg_base.specs.Saliency.{AreByWeight};
-ghost use Rattle.hg_base.specs.Levels.{AltitudesRise};
-ghost use Rattle.hg_base.specs.Zones.{zones_of, AreZones};
+ghost use Rattle.edge_laws.specs.Edges.{EdgeList, AreApart, AreWithin};
+ghost use Rattle.tree_laws.specs.Tree.{tree_of};
+ghost use Rattle.edge_laws.specs.Saliency.{AreByWeight};
+ghost use Rattle.tree_laws.specs.Levels.{AltitudesRise};
+ghost use Rattle.tree_laws.specs.Zones.{zones_of, AreZones};
 
 use crate::lists::zone_lists;
 use hg_base::OutOfMemory;

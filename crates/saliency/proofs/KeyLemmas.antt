@@ -4,18 +4,19 @@ use Rattle.std.specs.Prelude.{Option, Some, None, IfSome}
 use Rattle.std.specs.List.{range_with_len}
 use Rattle.std.proofs.lemmas.Bool.{cases_eq}
 use Rattle.std.proofs.lemmas.List.{get_or_default, get_or_push, get_or_append_left}
-use Rattle.hg_base.specs.Edges.{EdgeList, AreApart, AreWithin, count_below, joined}
+use Rattle.edge_laws.specs.Edges.{EdgeList, AreApart, AreWithin, joined}
+use Rattle.hg_base.specs.Counting.{count_below}
 use Rattle.hg_base.specs.Labels.{Labelling, IsLabelling, labelling}
 use Rattle.hg_base.specs.Numbering.{is_head, same_key, key_label}
-use Rattle.hg_base.specs.Saliency.{AreByWeight, at_most}
-use Rattle.hg_base.specs.Tree.{ParentTree, altitude, tree_of}
-use Rattle.hg_base.specs.Levels.{AltitudesRise, shares, IsTop, IsLevelTree}
-use Rattle.hg_base.proofs.Sets.{same_test}
-use Rattle.hg_base.proofs.Levels.{level-tree}
-use Rattle.hg_base.proofs.Tops.{top-shares, shares-from, shares-to}
+use Rattle.edge_laws.specs.Saliency.{AreByWeight, at_most}
+use Rattle.tree_laws.specs.Tree.{ParentTree, altitude, tree_of}
+use Rattle.tree_laws.specs.Levels.{AltitudesRise, shares, IsTop, IsLevelTree}
+use Rattle.edge_laws.proofs.Sets.{same_test}
+use Rattle.tree_laws.proofs.Levels.{level-tree}
+use Rattle.tree_laws.proofs.Tops.{top-shares, shares-from, shares-to}
 use Rattle.hg_base.proofs.Leasts.{IsClassing, labelling-agree}
 use Rattle.hg_base.proofs.KeyClasses.{same_key-from, same_key-to, classing-of_keys, AreLabels, labels-by_keys}
-use Rattle.hg_base.proofs.ZoneLevels.{shares-joined_test}
+use Rattle.tree_laws.proofs.ZoneLevels.{shares-joined_test}
 use Rattle.partition_tree.specs.Forest.{IsForest}
 use Rattle.partition_tree.proofs.ForestClimbs.{forest-climbs, forest-leaves}
 use Rattle.saliency.specs.Tops.{AreTops, AreFirstKeys}

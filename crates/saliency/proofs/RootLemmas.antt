@@ -7,9 +7,9 @@ use Rattle.std.proofs.lemmas.List.{get_or-set_same, get_or-set_other}
 use Rattle.std.proofs.lemmas.List.FromFn.{length-range_with_len, get_or-range_with_len}
 use Rattle.hg_base.specs.declared.graph.Edge.{Edge}
 use Rattle.hg_base.specs.Graph.{WeightedGraph, first_end, second_end}
-use Rattle.hg_base.specs.Tree.{ParentTree, parent}
-use Rattle.hg_base.specs.Levels.{IsClimbing}
-use Rattle.hg_base.proofs.Climbs.{ancestor-root, above-on, above-either}
+use Rattle.tree_laws.specs.Tree.{ParentTree, parent}
+use Rattle.tree_laws.specs.Levels.{IsClimbing}
+use Rattle.tree_laws.proofs.Climbs.{ancestor-root, above-on, above-either}
 use Rattle.partition_tree.specs.Paths.{IsRootOf, ShareRoot}
 use Rattle.saliency.specs.Roots.{AreRoots}
 use Rattle.saliency.proofs.ValueLemmas.{first-is, second-is}

@@ -8,13 +8,13 @@ use Rattle.std.proofs.lemmas.List.{get_or_push, get_or_append_left}
 use Rattle.std.proofs.lemmas.List.FromFn.{length-map-range_with_len, get_or-map-range_with_len, map-range_with_len_more}
 use Rattle.hg_base.specs.declared.graph.Edge.{Edge}
 use Rattle.hg_base.specs.Graph.{WeightedGraph, JoinsTwo, first_end, second_end}
-use Rattle.hg_base.specs.Rank.{ranked}
-use Rattle.hg_base.specs.Tree.{ParentTree, altitude, graph_tree}
-use Rattle.hg_base.specs.Saliency.{IsLowestAbove, IsSaliency}
-use Rattle.hg_base.specs.Saliencies.{saliency, saliencies}
-use Rattle.hg_base.proofs.Meeting.{lowest-weight}
-use Rattle.hg_base.proofs.Ranked.{AreApart-ranked, AreByWeight-ranked}
-use Rattle.hg_base.proofs.Saliencies.{saliency-is, saliency-only}
+use Rattle.edge_laws.specs.Rank.{ranked}
+use Rattle.tree_laws.specs.Tree.{ParentTree, altitude, graph_tree, IsLowestAbove}
+use Rattle.edge_laws.specs.Saliency.{IsSaliency}
+use Rattle.edge_laws.specs.Saliencies.{saliency, saliencies}
+use Rattle.tree_laws.proofs.Meeting.{lowest-weight}
+use Rattle.edge_laws.proofs.Ranked.{AreApart-ranked, AreByWeight-ranked}
+use Rattle.edge_laws.proofs.Saliencies.{saliency-is, saliency-only}
 use Rattle.saliency.specs.Values.{IsLowestAltitude, AreLowestAltitudes, AreSaliencies}
 
 -- the ends of an edge that was read

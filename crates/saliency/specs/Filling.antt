@@ -1,8 +1,8 @@
 -- What is asked and what is answered for one edge, where threads find the saliencies of a graph's edges.
 use Rattle.std.specs.Prelude.{◌≡◌, ℕ, ◌<◌, ◌^◌, length}
 use Rattle.hg_base.specs.Graph.{WeightedGraph, first_end, second_end}
-use Rattle.hg_base.specs.Saliencies.{saliency}
-use Rattle.hg_base.specs.Tree.{ParentTree, graph_tree}
+use Rattle.edge_laws.specs.Saliencies.{saliency}
+use Rattle.tree_laws.specs.Tree.{ParentTree, graph_tree}
 use Rattle.saliency.specs.Values.{EndsShareRoots, IsLowestAltitude}
 
 -- the edge has a saliency for the tree, whose ancestors these are

@@ -1,6 +1,6 @@
 -- The root of each node.
 use Rattle.std.specs.Prelude.{◌≡◌, ℕ, ◌<◌, List, length, get_or}
-use Rattle.hg_base.specs.Tree.{ParentTree}
+use Rattle.tree_laws.specs.Tree.{ParentTree}
 use Rattle.partition_tree.specs.Paths.{IsRootOf}
 
 -- each node has the root of its path

@@ -1,7 +1,7 @@
 -- The last node up to a level on each path, and the leaves' keys by it.
 use Rattle.std.specs.Prelude.{◌≡◌, ℕ, ◌<◌, ◌≤◌, List, length, get_or, Option, Some, None}
-use Rattle.hg_base.specs.Tree.{ParentTree, altitude}
-use Rattle.hg_base.specs.Levels.{IsTop}
+use Rattle.tree_laws.specs.Tree.{ParentTree, altitude}
+use Rattle.tree_laws.specs.Levels.{IsTop}
 
 -- for each node up to the level the last such node on its path; all are nodes
 pub record AreTops (t : ParentTree) (level : ℕ) (tops : List ℕ) : Type 0 where

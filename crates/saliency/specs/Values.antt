@@ -1,8 +1,8 @@
 -- Saliencies as altitudes.
 use Rattle.std.specs.Prelude.{◌≡◌, ℕ, ◌<◌, List, length, get_or}
 use Rattle.hg_base.specs.Graph.{WeightedGraph, first_end, second_end}
-use Rattle.hg_base.specs.Tree.{ParentTree, altitude}
-use Rattle.hg_base.specs.Saliency.{IsLowestAbove, IsSaliency}
+use Rattle.tree_laws.specs.Tree.{ParentTree, altitude, IsLowestAbove}
+use Rattle.edge_laws.specs.Saliency.{IsSaliency}
 use Rattle.partition_tree.specs.Paths.{ShareRoot}
 
 -- k is the altitude of the lowest common ancestor of a and b

@@ -1,10 +1,10 @@
 ghost use Rattle.std.specs.Prelude.{◌≡◌, ℕ, ◌<◌, ◌≤◌, length, IfOk};
 ghost use Rattle.std.specs.List.{range_with_len};
-ghost use Rattle.hg_base.specs.Edges.{EdgeList, AreApart, AreWithin, joined};
+ghost use Rattle.edge_laws.specs.Edges.{EdgeList, AreApart, AreWithin, joined};
 ghost use Rattle.hg_base.specs.Labels.{labelling};
-ghost use Rattle.hg_base.specs.Tree.{tree_of};
-ghost use Rattle.hg_base.specs.Saliency.{AreByWeight, at_most};
-ghost use Rattle.hg_base.specs.Levels.{AltitudesRise, shares};
+ghost use Rattle.tree_laws.specs.Tree.{tree_of};
+ghost use Rattle.edge_laws.specs.Saliency.{AreByWeight, at_most};
+ghost use Rattle.tree_laws.specs.Levels.{AltitudesRise, shares};
 ghost use Rattle.partition_tree.specs.Forest.{nodes, IsForest};
 ghost use Rattle.saliency.specs.Tops.{AreTops, AreFirstKeys};
 

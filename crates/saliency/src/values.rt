@@ -1,7 +1,7 @@
 ghost use Rattle.std.specs.Prelude.{◌≡◌, ◌<◌, length, IfOk};
 ghost use Rattle.hg_base.specs.Graph.{first_end, second_end};
-ghost use Rattle.hg_base.specs.Tree.{graph_tree};
-ghost use Rattle.hg_base.specs.Saliencies.{saliency, saliencies};
+ghost use Rattle.tree_laws.specs.Tree.{graph_tree};
+ghost use Rattle.edge_laws.specs.Saliencies.{saliency, saliencies};
 ghost use Rattle.saliency.specs.Filling.{CanValue, IsValue};
 ghost use Rattle.saliency.specs.Values.{IsLowestAltitude, EndsShareRoots, AreLowestAltitudes, AreSaliencies};
 

@@ -2,10 +2,11 @@
 use Rattle.std.proofs.Common.{◌≡◌, ℕ, ◌+◌, ◌-◌, ◌*◌, ◌/◌, ◌%◌, ◌<◌, ◌≤◌, Bool, true, false, cond, inl, inr, refl, sym, ◌∙◌, subst, ap, arith, List, [], ◌∷◌, length, map}
 use Rattle.std.specs.Prelude.{◌==◌, filter, nat_lt, slice_index, slice_range}
 use Rattle.std.proofs.lemmas.Bool.{cases_Bool, eq-eqb, eqb-true, ltb-true, ltb-false}
-use Rattle.hg_base.specs.Edges.{ListedEdge, EdgeList, IsIn, renamed, renamed_edge}
-use Rattle.hg_base.specs.Placed.{placed}
-use Rattle.hg_base.proofs.Members.{IsIn-kept}
-use Rattle.hg_base.proofs.Sets.{same_test}
+use Rattle.edge_laws.specs.Edges.{ListedEdge, EdgeList, renamed, renamed_edge}
+use Rattle.hg_base.specs.Lists.{IsIn}
+use Rattle.edge_laws.specs.Placed.{placed}
+use Rattle.hg_base.proofs.Lists.{IsIn-kept}
+use Rattle.edge_laws.proofs.Sets.{same_test}
 use Rattle.tile_plan.specs.Merges.{MergeTree, Tile, Merge, half, IsCut, tiles, tile_at}
 use Rattle.tile_plan.specs.Sites.{is_lot_of, find}
 use Rattle.tile_plan.specs.Grids.{tiles_in, tree_in, part_in, lot_in, root_of}
@@ -15,7 +16,7 @@ use Rattle.tile_plan.specs.declared.site.Grid.{Grid}
 use Rattle.tile_plan.specs.declared.plan.Lots.{Lots}
 use Rattle.tile_plan.specs.PlanFields.{HoldsLots}
 use Rattle.tile_plan.specs.declared.frame.Frame.{Frame}
-use Rattle.hg_base.specs.Rising.{IsRising}
+use Rattle.edge_laws.specs.Rising.{IsRising}
 use Rattle.tile_plan.specs.Placing.{AreKeys, IsTable, start_by, place_by}
 use Rattle.tile_plan.specs.Plan.{TilePlan, IsPlan, IsEdgeAmong, grid_of, tile_count, part_count, vertices, home, start, place_of, part, lot_between_vertices, lot_edges}
 use Rattle.tile_plan.proofs.Laying.{tree_in-is, tree_in-tiles, grid-columns, grid-rows, vertex-column, vertex-row}

@@ -5,14 +5,15 @@ use Rattle.std.proofs.lemmas.List.{get_or-map, get_or_default, length-map}
 use Rattle.std.proofs.lemmas.List.FromFn.{length-map-range_with_len, get_or-map-range_with_len, map-range_with_len_more}
 use Rattle.std.proofs.lemmas.Option.{slice_get-get_or}
 use Rattle.hg_base.specs.Graph.{WeightedGraph, JoinsTwo, first_end, second_end}
-use Rattle.hg_base.specs.Edges.{ListedEdge, EdgeList, IsIn}
-use Rattle.hg_base.specs.Rank.{number_at, listed, ranked}
-use Rattle.hg_base.specs.Rising.{IsRising}
+use Rattle.edge_laws.specs.Edges.{ListedEdge, EdgeList}
+use Rattle.hg_base.specs.Lists.{IsIn}
+use Rattle.edge_laws.specs.Rank.{number_at, listed, ranked}
+use Rattle.edge_laws.specs.Rising.{IsRising}
 use Rattle.hg_base.specs.declared.graph.Edge.{Edge}
 use Rattle.edge_order.specs.Order.{EdgeOrder, number_at_rank, order_of}
 use Rattle.edge_order.proofs.Rows.{number_at_rank-of}
-use Rattle.hg_base.proofs.Ranked.{ranked-at}
-use Rattle.hg_base.proofs.Ranks.{number_at-below}
+use Rattle.edge_laws.proofs.Ranked.{ranked-at}
+use Rattle.edge_laws.proofs.Ranks.{number_at-below}
 use Rattle.tile_plan.specs.Placing.{AreKeys}
 use Rattle.tile_plan.specs.Plan.{IsEdgeAmong}
 use Rattle.tile_plan.proofs.Filled.{map_by_each}

@@ -1,8 +1,8 @@
 -- Ranks that lie in order of their lots.
 use Rattle.std.proofs.Common.{◌≡◌, ℕ, ◌<◌, ◌∙◌, sym, ap, arith, List, Some, slice_get, get_or, slice_index}
 use Rattle.std.proofs.lemmas.Option.{get_or_from_slice_get}
-use Rattle.hg_base.specs.Edges.{ListedEdge, EdgeList, renamed_edge}
-use Rattle.hg_base.specs.Placed.{placed}
+use Rattle.edge_laws.specs.Edges.{ListedEdge, EdgeList, renamed_edge}
+use Rattle.edge_laws.specs.Placed.{placed}
 use Rattle.hg_base.specs.declared.graph.PlacedEdge.{PlacedEdge}
 use Rattle.hg_base.specs.declared.graph.RankedEdge.{RankedEdge}
 use Rattle.edge_order.specs.Order.{with_number}

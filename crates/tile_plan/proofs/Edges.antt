@@ -2,11 +2,11 @@
 use Rattle.std.proofs.Common.{◌≡◌, ℕ, ◌+◌, ◌<◌, ◌≤◌, true, inl, inr, refl, sym, ◌∙◌, subst, ap, arith, List, [], ◌∷◌, ◌++◌}
 use Rattle.std.specs.List.{flat_map}
 use Rattle.std.proofs.lemmas.List.{append-nil, append_assoc}
-use Rattle.hg_base.specs.Edges.{ListedEdge, EdgeList, IsIn, AreApart, renamed_edge}
-use Rattle.hg_base.specs.Rising.{IsRising}
-use Rattle.hg_base.proofs.Members.{IsIn-kept, IsIn-filter}
-use Rattle.hg_base.proofs.Fronts.{apart-one}
-use Rattle.hg_base.proofs.Components.{IsIn-append, IsIn-append_back}
+use Rattle.edge_laws.specs.Edges.{ListedEdge, EdgeList, AreApart, renamed_edge}
+use Rattle.hg_base.specs.Lists.{IsIn}
+use Rattle.edge_laws.specs.Rising.{IsRising}
+use Rattle.hg_base.proofs.Lists.{IsIn-kept, IsIn-filter, IsIn-append, IsIn-append_back}
+use Rattle.edge_laws.proofs.Fronts.{apart-one}
 use Rattle.tile_plan.specs.Merges.{MergeTree, Tile, Merge, tiles, merges}
 use Rattle.tile_plan.specs.Sites.{Part, left_site, right_site, find, post_order, is_lot_of}
 use Rattle.tile_plan.specs.Grids.{tree_in, root_of, part_in}

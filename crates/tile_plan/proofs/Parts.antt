@@ -1,8 +1,8 @@
 -- The parts of a tree of merges: where each is found, and what is above and below it.
 use Rattle.std.proofs.Common.{◌≡◌, ◌≢◌, ℕ, ◌+◌, ◌<◌, ◌≤◌, Bool, ◌⊎◌, inl, inr, refl, sym, ◌∙◌, subst, ap, arith, [], ◌∷◌, ◌++◌}
 use Rattle.std.proofs.lemmas.Bool.{cases_lt, cases_eq, eq-eqb}
-use Rattle.hg_base.specs.Edges.{IsIn}
-use Rattle.hg_base.proofs.Components.{IsIn-append, IsIn-append_back}
+use Rattle.hg_base.specs.Lists.{IsIn}
+use Rattle.hg_base.proofs.Lists.{IsIn-append, IsIn-append_back}
 use Rattle.tile_plan.specs.Merges.{MergeTree, Tile, Merge, tiles, merges}
 use Rattle.tile_plan.specs.Sites.{Part, number, left_site, right_site, find, post_order}
 use Rattle.tile_plan.specs.declared.site.Site.{Site}

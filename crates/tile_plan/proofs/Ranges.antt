@@ -7,7 +7,7 @@ use Rattle.std.proofs.lemmas.Bool.{cases_lt}
 use Rattle.std.proofs.lemmas.Nat.{mul-le, mul-add-lt, div-mul-add, mod-mul-add}
 use Rattle.std.proofs.lemmas.Grind.{div_ceil_times}
 use Rattle.std.proofs.lemmas.List.{append-nil}
-use Rattle.hg_base.specs.Edges.{IsOneToOne}
+use Rattle.hg_base.specs.Counting.{IsOneToOne}
 use Rattle.tile_plan.specs.Merges.{MergeTree, Tile, Merge, half, IsCut, tiles, tile_at}
 use Rattle.tile_plan.specs.Sites.{Part, number, left_site, right_site, find, post_order}
 use Rattle.tile_plan.specs.Grids.{tree_in, root_of, part_in}

@@ -4,9 +4,11 @@ use Rattle.std.specs.Prelude.{slice_index, Option, Some, ◌==◌}
 use Rattle.std.proofs.lemmas.Bool.{cases_lt, eq-eqb, eqb-true, true≢false}
 use Rattle.std.proofs.lemmas.List.{get_or_read}
 use Rattle.std.proofs.lemmas.List.FromFn.{length-map-range_with_len, get_or-map-range_with_len}
-use Rattle.hg_base.specs.Rising.{IsRising}
-use Rattle.hg_base.specs.Edges.{ListedEdge, EdgeList, IsIn, IsOneToOne, renamed, renamed_edge}
-use Rattle.hg_base.proofs.Members.{IsRising-filter}
+use Rattle.edge_laws.specs.Rising.{IsRising}
+use Rattle.edge_laws.specs.Edges.{ListedEdge, EdgeList, renamed, renamed_edge}
+use Rattle.hg_base.specs.Lists.{IsIn}
+use Rattle.hg_base.specs.Counting.{IsOneToOne}
+use Rattle.edge_laws.proofs.Members.{IsRising-filter}
 use Rattle.tile_plan.proofs.Cuts.{tiles-some}
 use Rattle.tile_plan.specs.Sites.{is_lot_of}
 use Rattle.tile_plan.specs.Grids.{tree_in, part_in, rows_of, row_of_part}

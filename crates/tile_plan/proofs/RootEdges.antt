@@ -2,9 +2,10 @@
 use Rattle.std.proofs.Common.{◌≡◌, ℕ, ◌+◌, ◌<◌, cond, Bool, true, false, refl, sym, ◌∙◌, subst, ap, arith, [], ◌∷◌, length}
 use Rattle.std.specs.Prelude.{nat_lt}
 use Rattle.std.proofs.lemmas.List.{length-map}
-use Rattle.hg_base.specs.Edges.{ListedEdge, EdgeList, IsIn, AreApart, AreWithin, IsSameSet, in_order, placed_by_rank, joins, chain, renamed, renamed_edge}
-use Rattle.hg_base.proofs.Sets.{in_order-same, joins-same, chain-same}
-use Rattle.hg_base.proofs.Renaming.{joins-renamed, chain-renamed}
+use Rattle.edge_laws.specs.Edges.{ListedEdge, EdgeList, AreApart, AreWithin, IsSameSet, in_order, placed_by_rank, joins, chain, renamed, renamed_edge}
+use Rattle.hg_base.specs.Lists.{IsIn}
+use Rattle.edge_laws.proofs.Sets.{in_order-same, joins-same, chain-same}
+use Rattle.edge_laws.proofs.Renaming.{joins-renamed, chain-renamed}
 use Rattle.tile_plan.specs.Sites.{Part, post_order}
 use Rattle.tile_plan.specs.Grids.{tree_in, root_of}
 use Rattle.tile_plan.specs.Plan.{TilePlan, IsPlan, grid_of, tile_count, part_count, root, vertices, place_of, post, lot_between_vertices, lot_edges, edges_at}

@@ -4,12 +4,14 @@ use Rattle.std.specs.Prelude.{◌==◌, filter, slice_index}
 use Rattle.std.proofs.lemmas.Bool.{cases_eq, eq-eqb}
 use Rattle.std.proofs.lemmas.List.{append-nil, map-append, get_or-map, get_or-drop, take_more, length-map, length-drop}
 use Rattle.std.proofs.lemmas.List.Elements.{filter-append}
-use Rattle.hg_base.specs.Edges.{ListedEdge, EdgeList, IsIn, renamed, renamed_edge}
-use Rattle.hg_base.specs.Placed.{placed}
-use Rattle.hg_base.specs.Rising.{IsRising}
+use Rattle.edge_laws.specs.Edges.{ListedEdge, EdgeList, renamed, renamed_edge}
+use Rattle.hg_base.specs.Lists.{IsIn}
+use Rattle.edge_laws.specs.Placed.{placed}
+use Rattle.edge_laws.specs.Rising.{IsRising}
 use Rattle.hg_base.specs.declared.graph.RankedEdge.{RankedEdge}
 use Rattle.hg_base.specs.declared.graph.PlacedEdge.{PlacedEdge}
-use Rattle.hg_base.proofs.Components.{IsIn-append_back, IsRising-append}
+use Rattle.hg_base.proofs.Lists.{IsIn-append_back}
+use Rattle.edge_laws.proofs.Components.{IsRising-append}
 use Rattle.edge_order.specs.Order.{with_number}
 use Rattle.tile_plan.specs.Placing.{count_of, start_by, place_by}
 use Rattle.tile_plan.proofs.Counting.{place-is, place-below}

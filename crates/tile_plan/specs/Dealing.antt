@@ -1,7 +1,7 @@
 -- What is told of one edge when the lots are dealt.
 use Rattle.std.specs.Prelude.{◌≡◌, ℕ, ◌<◌, ◌*◌, ◌-◌, List, get_or, slice_index}
-use Rattle.hg_base.specs.Edges.{ListedEdge, EdgeList, renamed_edge}
-use Rattle.hg_base.specs.Placed.{placed}
+use Rattle.edge_laws.specs.Edges.{ListedEdge, EdgeList, renamed_edge}
+use Rattle.edge_laws.specs.Placed.{placed}
 use Rattle.hg_base.specs.declared.graph.Edge.{Edge}
 use Rattle.hg_base.specs.declared.graph.PlacedEdge.{PlacedEdge}
 use Rattle.tile_plan.specs.Grids.{lot_in, tiles_in}

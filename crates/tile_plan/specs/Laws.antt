@@ -1,7 +1,8 @@
 -- What holds of every plan: how its parts stand to each other, and which edges and places are whose.
 use Rattle.std.specs.Prelude.{◌≡◌, ◌≢◌, ℕ, ◌+◌, ◌-◌, ◌*◌, ◌<◌, ◌≤◌, ◌⊎◌, ◌↔◌, [], ◌∷◌, ◌++◌}
-use Rattle.hg_base.specs.Edges.{ListedEdge, IsIn, AreApart}
-use Rattle.hg_base.specs.Rising.{IsRising}
+use Rattle.edge_laws.specs.Edges.{ListedEdge, AreApart}
+use Rattle.hg_base.specs.Lists.{IsIn}
+use Rattle.edge_laws.specs.Rising.{IsRising}
 use Rattle.tile_plan.specs.Plan.{TilePlan, IsEdgeAmong, vertices, tile_count, part_count, root, first_tile, tiles_of, left, right, mother, weight, sibling, first_place, end_place, IsPlaceOf, post, place_of, home, lot_edges, edges_at, room_tiles}
 
 -- the mother of a part, and which half of it the part is: 1 for the left one, 2 for the right one

@@ -2,9 +2,10 @@
 use Rattle.std.specs.Prelude.{◌≡◌, ℕ, ◌+◌, ◌-◌, ◌*◌, ◌<◌, ◌≤◌, ◌==◌, ◌≢◌, List, length, filter, Option, Some, None, Result, Ok, Err, if◌then◌else◌}
 use Rattle.std.specs.List.{flat_map}
 use Rattle.hg_base.specs.Graph.{WeightedGraph}
-use Rattle.hg_base.specs.Rank.{ranked}
-use Rattle.hg_base.specs.Edges.{ListedEdge, EdgeList, IsIn, renamed}
-use Rattle.hg_base.specs.Rising.{IsRising}
+use Rattle.edge_laws.specs.Rank.{ranked}
+use Rattle.edge_laws.specs.Edges.{ListedEdge, EdgeList, renamed}
+use Rattle.hg_base.specs.Lists.{IsIn}
+use Rattle.edge_laws.specs.Rising.{IsRising}
 use Rattle.tile_plan.specs.Merges.{tiles}
 use Rattle.tile_plan.specs.Sites.{Part, post_order, is_lot_of, left_of, right_of}
 use Rattle.tile_plan.specs.Grids.{tiles_in, part_in}

@@ -1,6 +1,6 @@
 -- What the fields of a plan hold.
 use Rattle.std.specs.Prelude.{◌≡◌, ℕ, ◌+◌, ◌<◌, ◌≤◌, length, map, slice_index, slice_range}
-use Rattle.hg_base.specs.Placed.{placed}
+use Rattle.edge_laws.specs.Placed.{placed}
 use Rattle.tile_plan.specs.Grids.{rows_of}
 use Rattle.tile_plan.specs.Placing.{IsTable}
 use Rattle.tile_plan.specs.Plan.{TilePlan, IsPlan, vertices, grid_of, tile_count, part_count, start, place_of, lot_edges}

@@ -1,7 +1,9 @@
 //! What holds of every plan, each law as the contract of a function that does nothing.
 ghost use Rattle.std.specs.Prelude.{◌≡◌, ℕ, ◌/◌, ◌<◌, ◌≤◌, length};
 ghost use Rattle.hg_base.specs.Graph.{WeightedGraph};
-ghost use Rattle.hg_base.specs.Edges.{ListedEdge, IsIn, IsOneToOne, IsSameSet, chain, joins, renamed};
+ghost use Rattle.edge_laws.specs.Edges.{ListedEdge, IsSameSet, chain, joins, renamed};
+ghost use Rattle.hg_base.specs.Lists.{IsIn};
+ghost use Rattle.hg_base.specs.Counting.{IsOneToOne};
 ghost use Rattle.tile_plan.specs.Merges.{IsCut};
 ghost use Rattle.tile_plan.specs.Plan.{TilePlan, IsPlan, blocks, edges_at, grid_of, home, lot_between_vertices, lot_edges, part, part_count, place_of, root, tile_count, vertices};
 ghost use Rattle.tile_plan.specs.Laws.{Crosses, HasEdges, HasHalves, HasMother, IsSomewhere, IsTile, JoinsHalves};

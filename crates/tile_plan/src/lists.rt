@@ -1,9 +1,10 @@
 // The lists of a plan that have an element for each vertex or edge, and so are long.
 ghost use Rattle.std.specs.Prelude.{◌≡◌, ℕ, ◌+◌, ◌-◌, ◌*◌, ◌<◌, ◌≤◌, ◌==◌, IfOk, length, map, filter, slice_index, slice_range};
 ghost use Rattle.edge_order.specs.Order.{order_of};
-ghost use Rattle.hg_base.specs.Edges.{ListedEdge, IsIn, renamed};
-ghost use Rattle.hg_base.specs.Placed.{placed};
-ghost use Rattle.hg_base.specs.Rising.{IsRising};
+ghost use Rattle.edge_laws.specs.Edges.{ListedEdge, renamed};
+ghost use Rattle.hg_base.specs.Lists.{IsIn};
+ghost use Rattle.edge_laws.specs.Placed.{placed};
+ghost use Rattle.edge_laws.specs.Rising.{IsRising};
 ghost use Rattle.tile_plan.specs.Grids.{IsSmall, lot_in, tile_in, tiles_in};
 ghost use Rattle.tile_plan.specs.Frames.{grid_in, home_in, IsFrame, vertices_in};
 ghost use Rattle.tile_plan.specs.Placing.{AreKeys, IsTable, start_by};

@@ -1,7 +1,8 @@
 ghost use Rattle.std.specs.Prelude.{◌≡◌, ℕ, ◌+◌, ◌-◌, ◌*◌, ◌<◌, ◌≤◌, IfOk, length, map, Some};
-ghost use Rattle.hg_base.specs.Edges.{ListedEdge, IsIn};
-ghost use Rattle.hg_base.specs.Placed.{placed};
-ghost use Rattle.hg_base.specs.Rising.{IsRising};
+ghost use Rattle.edge_laws.specs.Edges.{ListedEdge};
+ghost use Rattle.hg_base.specs.Lists.{IsIn};
+ghost use Rattle.edge_laws.specs.Placed.{placed};
+ghost use Rattle.edge_laws.specs.Rising.{IsRising};
 ghost use Rattle.edge_order.specs.Order.{order_of};
 ghost use Rattle.tile_plan.specs.Grids.{IsSmall, tiles_in};
 ghost use Rattle.tile_plan.specs.Frames.{IsFrame, grid_in, vertices_in};

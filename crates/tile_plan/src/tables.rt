@@ -1,9 +1,10 @@
 ghost use Rattle.std.specs.Prelude.{◌≡◌, ℕ, ◌+◌, ◌-◌, ◌*◌, ◌<◌, ◌≤◌, ◌==◌, IfOk, get_or, length, map, filter, slice_index, slice_range};
 ghost use Rattle.hg_base.specs.declared.graph.PlacedEdge.{PlacedEdge};
 ghost use Rattle.edge_order.specs.Order.{number_at_rank, order_of};
-ghost use Rattle.hg_base.specs.Edges.{ListedEdge, IsIn, renamed};
-ghost use Rattle.hg_base.specs.Placed.{placed};
-ghost use Rattle.hg_base.specs.Rising.{IsRising};
+ghost use Rattle.edge_laws.specs.Edges.{ListedEdge, renamed};
+ghost use Rattle.hg_base.specs.Lists.{IsIn};
+ghost use Rattle.edge_laws.specs.Placed.{placed};
+ghost use Rattle.edge_laws.specs.Rising.{IsRising};
 ghost use Rattle.tile_plan.specs.Grids.{IsSmall, lot_in, root_of, rows_of, tile_in, tiles_in};
 ghost use Rattle.tile_plan.specs.Frames.{grid_in, home_in, IsFrame, vertices_in};
 ghost use Rattle.tile_plan.specs.Placing.{AreKeys, IsTable, start_by};

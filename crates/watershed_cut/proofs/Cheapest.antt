@@ -4,8 +4,8 @@ use Rattle.std.specs.Prelude.{nat_le}
 use Rattle.std.specs.List.{sum_by}
 use Rattle.std.proofs.lemmas.Bool.{cases_lt, cond-true, cond-false, le-leb, leb-true, false_from_ne_true}
 use Rattle.std.proofs.lemmas.List.Sums.{sum_by-cons}
-use Rattle.hg_base.specs.Edges.{ListedEdge, EdgeList}
-use Rattle.hg_base.specs.Saliency.{at_most}
+use Rattle.edge_laws.specs.Edges.{ListedEdge, EdgeList}
+use Rattle.edge_laws.specs.Saliency.{at_most}
 
 -- the sum of the weights
 abbrev pub weights : EdgeList → ℕ

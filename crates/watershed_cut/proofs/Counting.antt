@@ -3,12 +3,14 @@ use Rattle.std.proofs.Common.{◌≡◌, ℕ, zero, suc, ◌+◌, ◌<◌, ◌�
 use Rattle.std.specs.Prelude.{not, filter}
 use Rattle.std.specs.List.{range_with_len}
 use Rattle.std.proofs.lemmas.Bool.{cases_Bool, both_ways, false_from_ne_true, eqb-true}
-use Rattle.hg_base.specs.Edges.{ListedEdge, EdgeList, IsIn, AreWithin, joined, link, count_below, is_least, components}
-use Rattle.hg_base.proofs.Components.{link-count, components-agree}
+use Rattle.edge_laws.specs.Edges.{ListedEdge, EdgeList, AreWithin, joined, link, components}
+use Rattle.hg_base.specs.Lists.{IsIn}
+use Rattle.hg_base.specs.Counting.{count_below, is_least}
+use Rattle.edge_laws.proofs.Components.{link-count, components-agree}
 use Rattle.hg_base.proofs.CountMore.{count_below-cut, count_below-wider}
 use Rattle.hg_base.proofs.Counts.{count_below-agree, count_below-all, is_least-from, is_least-to, is_least-agree}
-use Rattle.hg_base.proofs.Leaving.{link-same}
-use Rattle.hg_base.proofs.Walks.{IsSame-joined}
+use Rattle.edge_laws.proofs.Leaving.{link-same}
+use Rattle.edge_laws.proofs.Walks.{IsSame-joined}
 
 -- an edge whose ends weren't joined leaves one component fewer
 pub components-apart : (n : ℕ) (e : ListedEdge) (m : EdgeList) → e.u < n → e.v < n → joined m e.u e.v ≡ false → components n (e ∷ m) + 1 ≡ components n m

@@ -3,14 +3,16 @@
 use Rattle.std.proofs.Common.{◌≡◌, ℕ, zero, suc, ◌+◌, ◌<◌, ◌≤◌, Bool, true, false, cond, ◌⊎◌, inl, inr, refl, ◌∙◌, subst, ap, arith, [], ◌∷◌, ◌++◌, length}
 use Rattle.std.specs.Prelude.{not, ◌&&◌, filter, nat_lt}
 use Rattle.std.proofs.lemmas.Bool.{cases_Bool, both_ways, and_parts, and_cases, and_from, not-true, false_from_ne_true, true_from_ne_false}
-use Rattle.hg_base.specs.Edges.{ListedEdge, EdgeList, IsIn, AreWithin, Joined, joined, below, is_joining, in_order, placed_by_rank, count_below, components}
-use Rattle.hg_base.specs.Rising.{IsRising}
-use Rattle.hg_base.proofs.Components.{IsIn-append, IsIn-append_back}
-use Rattle.hg_base.proofs.Link.{link_cases}
-use Rattle.hg_base.proofs.Members.{IsIn-filter, IsIn-below, IsIn-below_kept, IsSameSet-in_order, IsRising-in_order}
-use Rattle.hg_base.proofs.Sets.{joined-among}
-use Rattle.hg_base.proofs.Walks.{IsSame-joined, joined-ends, Joined-joined}
-use Rattle.hg_base.proofs.Drops.{holds}
+use Rattle.edge_laws.specs.Edges.{ListedEdge, EdgeList, AreWithin, Joined, joined, below, is_joining, in_order, placed_by_rank, components}
+use Rattle.hg_base.specs.Lists.{IsIn}
+use Rattle.hg_base.specs.Counting.{count_below}
+use Rattle.edge_laws.specs.Rising.{IsRising}
+use Rattle.hg_base.proofs.Lists.{IsIn-append, IsIn-append_back, IsIn-filter}
+use Rattle.edge_laws.proofs.Link.{link_cases}
+use Rattle.edge_laws.proofs.Members.{IsIn-below, IsIn-below_kept, IsSameSet-in_order, IsRising-in_order}
+use Rattle.edge_laws.proofs.Sets.{joined-among}
+use Rattle.edge_laws.proofs.Walks.{IsSame-joined, joined-ends, Joined-joined}
+use Rattle.edge_laws.proofs.Drops.{holds}
 use Rattle.watershed_cut.specs.Minima.{InMinimum, SameMinimum}
 use Rattle.watershed_cut.specs.MinimumTests.{is_minimum, minimum_edges, in_minimum}
 use Rattle.watershed_cut.specs.Forest.{reaches, is_forest, IsForestList}

@@ -5,13 +5,14 @@ use Rattle.std.specs.Option.{is_some}
 use Rattle.std.proofs.lemmas.Bool.{cases_eq, true≢false}
 use Rattle.std.proofs.lemmas.List.{get_or-set_same, get_or-set_other}
 use Rattle.hg_base.specs.Graph.{WeightedGraph}
-use Rattle.hg_base.specs.Edges.{ListedEdge, IsIn}
-use Rattle.hg_base.specs.Rank.{number_at, ranked}
-use Rattle.hg_base.specs.Tree.{ParentTree, graph_tree}
-use Rattle.hg_base.specs.Zones.{maker}
-use Rattle.hg_base.proofs.Ranked.{ranked-at}
-use Rattle.hg_base.proofs.Ranks.{number_at-below}
-use Rattle.hg_base.proofs.Sets.{IsIn-joins_kept}
+use Rattle.edge_laws.specs.Edges.{ListedEdge}
+use Rattle.hg_base.specs.Lists.{IsIn}
+use Rattle.edge_laws.specs.Rank.{number_at, ranked}
+use Rattle.tree_laws.specs.Tree.{ParentTree, graph_tree}
+use Rattle.tree_laws.specs.Zones.{maker}
+use Rattle.edge_laws.proofs.Ranked.{ranked-at}
+use Rattle.edge_laws.proofs.Ranks.{number_at-below}
+use Rattle.edge_laws.proofs.Sets.{IsIn-joins_kept}
 use Rattle.watershed_cut.specs.TreePasses.{makes_forest, AreChosen, held_end, AreLeafLabels, AreNodeLabels}
 use Rattle.watershed_cut.proofs.Star.{in-map}
 

@@ -3,11 +3,13 @@ use Rattle.std.proofs.Common.{◌≡◌, ℕ, suc, true, false, inl, inr, refl, 
 use Rattle.std.specs.Prelude.{◌↔◌, not, ◌&&◌}
 use Rattle.std.specs.List.{range_with_len}
 use Rattle.std.proofs.lemmas.Bool.{and_parts, and_from, and_cases, and_left, and_right, both_ways, not-true, not_from_false, false_from_ne_true, cond-true, cond-false}
-use Rattle.hg_base.specs.Edges.{ListedEdge, EdgeList, IsIn, AreWithin, joined, below, is_joining, count_below}
+use Rattle.edge_laws.specs.Edges.{ListedEdge, EdgeList, AreWithin, joined, below, is_joining}
+use Rattle.hg_base.specs.Lists.{IsIn}
+use Rattle.hg_base.specs.Counting.{count_below}
 use Rattle.hg_base.specs.Labels.{least_of}
-use Rattle.hg_base.proofs.Sets.{IsIn-joins, IsIn-joins_kept}
-use Rattle.hg_base.proofs.Walks.{Joined-joined}
-use Rattle.hg_base.proofs.Drops.{holds}
+use Rattle.edge_laws.proofs.Sets.{IsIn-joins, IsIn-joins_kept}
+use Rattle.edge_laws.proofs.Walks.{Joined-joined}
+use Rattle.edge_laws.proofs.Drops.{holds}
 use Rattle.watershed_cut.specs.Minima.{IsMinimumEdge, InMinimum}
 use Rattle.watershed_cut.specs.MinimumTests.{is_minimum, in_minimum, same_minimum, is_head, vertex_label, edge_label}
 use Rattle.watershed_cut.specs.Forest.{Reaches, reaches, IsForestEdge, is_forest}

@@ -5,13 +5,14 @@ use Rattle.std.specs.List.{IsDistinct, AllByRecursion, range_with_len}
 use Rattle.std.proofs.lemmas.Bool.{both_ways, and_parts, not-true, ne_eqb}
 use Rattle.std.proofs.lemmas.List.{length-map}
 use Rattle.hg_base.specs.Graph.{WeightedGraph, IsGraph}
-use Rattle.hg_base.specs.Edges.{ListedEdge, EdgeList, IsIn, AreApart, AreWithin, is_joining}
-use Rattle.hg_base.specs.Rank.{numbers, number_at, listed, ranked}
-use Rattle.hg_base.proofs.Drops.{holds}
-use Rattle.hg_base.proofs.Members.{IsIn-filter, IsIn-kept}
-use Rattle.hg_base.proofs.Ranked.{ranked-at, IsIn-ranked, AreWithin-ranked}
-use Rattle.hg_base.proofs.Ranks.{number_at-below, rank-number_at, rank-injective}
-use Rattle.hg_base.proofs.Walks.{IsSame-joined, Joined-joined}
+use Rattle.edge_laws.specs.Edges.{ListedEdge, EdgeList, AreApart, AreWithin, is_joining}
+use Rattle.hg_base.specs.Lists.{IsIn}
+use Rattle.edge_laws.specs.Rank.{numbers, number_at, listed, ranked}
+use Rattle.edge_laws.proofs.Drops.{holds}
+use Rattle.hg_base.proofs.Lists.{IsIn-filter, IsIn-kept}
+use Rattle.edge_laws.proofs.Ranked.{ranked-at, IsIn-ranked, AreWithin-ranked}
+use Rattle.edge_laws.proofs.Ranks.{number_at-below, rank-number_at, rank-injective}
+use Rattle.edge_laws.proofs.Walks.{IsSame-joined, Joined-joined}
 use Rattle.watershed_cut.specs.Minima.{IsMinimumEdge}
 use Rattle.watershed_cut.specs.MinimumTests.{is_minimum, minimum_edges}
 use Rattle.watershed_cut.specs.MinimumLabels.{numbered}

@@ -1,10 +1,11 @@
 -- Who is joined by lists of which one joins only vertices of a kind.
 use Rattle.std.proofs.Common.{◌≡◌, ℕ, Bool, true, ◌⊎◌, inl, inr, refl, subst, List, [], ◌∷◌, ◌++◌}
 use Rattle.std.proofs.lemmas.Bool.{eqb-true}
-use Rattle.hg_base.specs.Edges.{ListedEdge, EdgeList, IsIn, IsWalk, joined}
-use Rattle.hg_base.proofs.Components.{IsIn-append_back}
-use Rattle.hg_base.proofs.Link.{IsSame, link_cases}
-use Rattle.hg_base.proofs.Walks.{IsSame-joined}
+use Rattle.edge_laws.specs.Edges.{ListedEdge, EdgeList, IsWalk, joined}
+use Rattle.hg_base.specs.Lists.{IsIn}
+use Rattle.hg_base.proofs.Lists.{IsIn-append_back}
+use Rattle.edge_laws.proofs.Link.{IsSame, link_cases}
+use Rattle.edge_laws.proofs.Walks.{IsSame-joined}
 use Rattle.watershed_cut.specs.Minima.{IsEnd}
 use Rattle.watershed_cut.proofs.MinimumWalks.{joined-own, step-first, step-second}
 

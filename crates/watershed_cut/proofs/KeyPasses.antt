@@ -3,9 +3,9 @@ use Rattle.std.proofs.Common.{◌≡◌, ℕ, zero, suc, ◌+◌, ◌<◌, ◌�
 use Rattle.std.specs.Prelude.{Option, None}
 use Rattle.std.proofs.lemmas.Bool.{cases_eq, true≢false}
 use Rattle.std.proofs.lemmas.List.{get_or-set_same, get_or-set_other, get_or_push, get_or_append_left}
-use Rattle.hg_base.specs.Tree.{ParentTree, parent, altitude}
-use Rattle.hg_base.specs.Levels.{IsClimbing, AltitudesRise, IsTop}
-use Rattle.hg_base.proofs.Tops.{top-shares}
+use Rattle.tree_laws.specs.Tree.{ParentTree, parent, altitude}
+use Rattle.tree_laws.specs.Levels.{IsClimbing, AltitudesRise, IsTop}
+use Rattle.tree_laws.proofs.Tops.{top-shares}
 use Rattle.watershed_cut.specs.Passes.{IsPlateau, IsDrop, IsOverLower, AreOverLower, IsPlateauKey, ArePlateauKeys}
 
 -- a node has one last node up to a level

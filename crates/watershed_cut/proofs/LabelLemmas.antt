@@ -7,18 +7,20 @@ use Rattle.std.proofs.lemmas.Bool.{cases_Bool, cases_eq, both_ways, true≢false
 use Rattle.std.proofs.lemmas.List.{get_or_default}
 use Rattle.std.proofs.lemmas.List.FromFn.{get_or-map-range_with_len, map-range_with_len_more}
 use Rattle.hg_base.specs.Graph.{WeightedGraph, first_end, second_end, weight}
-use Rattle.hg_base.specs.Edges.{ListedEdge, EdgeList, IsIn, AreWithin, count_below, is_least}
+use Rattle.edge_laws.specs.Edges.{ListedEdge, EdgeList, AreWithin}
+use Rattle.hg_base.specs.Lists.{IsIn}
+use Rattle.hg_base.specs.Counting.{count_below, is_least}
 use Rattle.hg_base.specs.Labels.{least_of}
 use Rattle.hg_base.specs.Numbering.{is_one_key, has_key, same_key, key_label, is_head as is_key_head}
-use Rattle.hg_base.specs.Rank.{number_at, ranked}
-use Rattle.hg_base.specs.Tree.{ParentTree, parent, altitude, graph_tree}
-use Rattle.hg_base.specs.Levels.{IsLevelTree}
+use Rattle.edge_laws.specs.Rank.{number_at, ranked}
+use Rattle.tree_laws.specs.Tree.{ParentTree, parent, altitude, graph_tree}
+use Rattle.tree_laws.specs.Levels.{IsLevelTree}
 use Rattle.hg_base.proofs.Counts.{count_below-agree}
-use Rattle.hg_base.proofs.Climbs.{above-within}
+use Rattle.tree_laws.proofs.Climbs.{above-within}
 use Rattle.hg_base.proofs.Leasts.{least_of-agree, least_of-most, map-agree}
-use Rattle.hg_base.proofs.Levels.{level-tree}
-use Rattle.hg_base.proofs.Ranked.{ranked-at, AreApart-ranked, AreByWeight-ranked, IsIn-ranked}
-use Rattle.hg_base.proofs.Ranks.{number_at-below}
+use Rattle.tree_laws.proofs.Levels.{level-tree}
+use Rattle.edge_laws.proofs.Ranked.{ranked-at, AreApart-ranked, AreByWeight-ranked, IsIn-ranked}
+use Rattle.edge_laws.proofs.Ranks.{number_at-below}
 use Rattle.partition_tree.specs.Forest.{IsForest}
 use Rattle.partition_tree.proofs.ForestClimbs.{forest-climbs}
 use Rattle.partition_tree.proofs.TreeLemmas.{tree-rises}

@@ -4,15 +4,16 @@ use Rattle.std.specs.Prelude.{not, filter, nat_le}
 use Rattle.std.proofs.lemmas.Bool.{cases_Bool, le-leb, leb-true, not_from_false}
 use Rattle.std.proofs.lemmas.List.{length-map}
 use Rattle.hg_base.specs.Graph.{WeightedGraph, IsGraph, weight}
-use Rattle.hg_base.specs.Edges.{ListedEdge, EdgeList, IsIn, AreWithin, Joined, joined, count_below, components}
-use Rattle.hg_base.specs.Rank.{ranked}
-use Rattle.hg_base.specs.Saliency.{at_most, AreByWeight}
-use Rattle.hg_base.proofs.Components.{IsIn-append, IsIn-append_back}
-use Rattle.hg_base.proofs.Drops.{holds}
-use Rattle.hg_base.proofs.Members.{IsIn-filter, IsIn-kept}
-use Rattle.hg_base.proofs.Ranked.{AreWithin-ranked, AreByWeight-ranked, IsIn-ranked}
-use Rattle.hg_base.proofs.Sets.{joined-among}
-use Rattle.hg_base.proofs.Walks.{IsSame-joined, joined-ends}
+use Rattle.edge_laws.specs.Edges.{ListedEdge, EdgeList, AreWithin, Joined, joined, components}
+use Rattle.hg_base.specs.Lists.{IsIn}
+use Rattle.hg_base.specs.Counting.{count_below}
+use Rattle.edge_laws.specs.Rank.{ranked}
+use Rattle.edge_laws.specs.Saliency.{at_most, AreByWeight}
+use Rattle.hg_base.proofs.Lists.{IsIn-append, IsIn-append_back, IsIn-filter, IsIn-kept}
+use Rattle.edge_laws.proofs.Drops.{holds}
+use Rattle.edge_laws.proofs.Ranked.{AreWithin-ranked, AreByWeight-ranked, IsIn-ranked}
+use Rattle.edge_laws.proofs.Sets.{joined-among}
+use Rattle.edge_laws.proofs.Walks.{IsSame-joined, joined-ends}
 use Rattle.watershed_cut.specs.Minima.{InMinimum}
 use Rattle.watershed_cut.specs.MinimumTests.{minimum_edges, in_minimum}
 use Rattle.watershed_cut.specs.MinimumLabels.{numbered}

@@ -3,10 +3,12 @@ use Rattle.std.proofs.Common.{◌≡◌, ℕ, ◌<◌, ◌≤◌, true, inl, inr
 use Rattle.std.specs.Prelude.{◌↔◌, ◌==◌, ◌&&◌, ◌||◌, nat_lt}
 use Rattle.std.specs.List.{list_any}
 use Rattle.std.proofs.lemmas.Bool.{cases_lt, or_cases, or_left, or_right, and_parts, and_from, both_ways, not-true, not_from_false, false_from_ne_true, eqb-true, eq-eqb, ltb-true, lt-ltb}
-use Rattle.hg_base.specs.Edges.{ListedEdge, EdgeList, IsIn, AreEnds, IsWalk, joined, is_least}
-use Rattle.hg_base.proofs.Members.{IsIn-filter, IsIn-kept}
-use Rattle.hg_base.proofs.Walks.{IsSame-joined, joined-ends, joined-walk, Joined-joined}
-use Rattle.hg_base.proofs.Drops.{holds}
+use Rattle.edge_laws.specs.Edges.{ListedEdge, EdgeList, AreEnds, IsWalk, joined}
+use Rattle.hg_base.specs.Lists.{IsIn}
+use Rattle.hg_base.specs.Counting.{is_least}
+use Rattle.hg_base.proofs.Lists.{IsIn-filter, IsIn-kept}
+use Rattle.edge_laws.proofs.Walks.{IsSame-joined, joined-ends, joined-walk, Joined-joined}
+use Rattle.edge_laws.proofs.Drops.{holds}
 use Rattle.hg_base.proofs.Counts.{is_least-from, is_least-to}
 use Rattle.watershed_cut.specs.Minima.{level, IsEnd, IsMinimumEdge, HasNoEdge, InMinimum, SameMinimum, IsHead}
 use Rattle.watershed_cut.specs.MinimumTests.{has_end, is_lower, is_minimum, minimum_edges, has_no_edge, in_minimum, same_minimum, is_head}

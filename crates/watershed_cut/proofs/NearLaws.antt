@@ -2,18 +2,21 @@
 use Rattle.std.proofs.Common.{◌≡◌, ℕ, zero, suc, ◌+◌, ◌<◌, ◌≤◌, true, false, ◌⊎◌, inl, inr, refl, sym, ◌∙◌, subst, ap, arith, List, [], ◌∷◌, length, get_or}
 use Rattle.std.specs.Prelude.{not, ◌&&◌, filter, nat_lt}
 use Rattle.std.proofs.lemmas.Bool.{cases_Bool, cases_order, both_ways, and_parts, and_cases, true_from_ne_false, false_from_ne_true, lt-ltb, ltb-true}
-use Rattle.hg_base.specs.Edges.{ListedEdge, EdgeList, IsIn, IsWalk, AreApart, AreWithin, joined, below, joins, is_joining}
-use Rattle.hg_base.specs.Tree.{IsAbove, tree_of, place}
-use Rattle.hg_base.proofs.Components.{rank_above}
-use Rattle.hg_base.proofs.Fronts.{apart-one, joined-meet}
-use Rattle.hg_base.proofs.FrontOnce.{leaf_or_made, leaf-alone}
-use Rattle.hg_base.proofs.FrontTree.{above-made}
-use Rattle.hg_base.proofs.Meeting.{chain-leaving, place-less}
-use Rattle.hg_base.proofs.Members.{IsIn-below, IsIn-below_kept, IsIn-filter}
-use Rattle.hg_base.proofs.Paths.{made-above}
-use Rattle.hg_base.proofs.Sets.{same_test, IsIn-joins, IsIn-joins_kept, joined-among, joined_below-more}
-use Rattle.hg_base.proofs.Walks.{IsSame-joined, joined-ends, Joined-joined}
-use Rattle.hg_base.proofs.Drops.{holds}
+use Rattle.edge_laws.specs.Edges.{ListedEdge, EdgeList, IsWalk, AreApart, AreWithin, joined, below, joins, is_joining}
+use Rattle.hg_base.specs.Lists.{IsIn}
+use Rattle.tree_laws.specs.Tree.{IsAbove, tree_of, place}
+use Rattle.edge_laws.proofs.Components.{rank_above}
+use Rattle.edge_laws.proofs.Fronts.{apart-one, joined-meet}
+use Rattle.tree_laws.proofs.FrontOnce.{leaf_or_made, leaf-alone}
+use Rattle.tree_laws.proofs.FrontTree.{above-made}
+use Rattle.edge_laws.proofs.Meeting.{chain-leaving}
+use Rattle.tree_laws.proofs.Meeting.{place-less}
+use Rattle.edge_laws.proofs.Members.{IsIn-below, IsIn-below_kept}
+use Rattle.hg_base.proofs.Lists.{IsIn-filter}
+use Rattle.tree_laws.proofs.Paths.{made-above}
+use Rattle.edge_laws.proofs.Sets.{same_test, IsIn-joins, IsIn-joins_kept, joined-among, joined_below-more}
+use Rattle.edge_laws.proofs.Walks.{IsSame-joined, joined-ends, Joined-joined}
+use Rattle.edge_laws.proofs.Drops.{holds}
 use Rattle.watershed_cut.specs.Minima.{InMinimum}
 use Rattle.watershed_cut.specs.MinimumTests.{is_minimum, in_minimum, vertex_label}
 use Rattle.watershed_cut.specs.Forest.{reaches, is_forest}

@@ -5,9 +5,9 @@ use Rattle.std.specs.List.{range_with_len}
 use Rattle.std.proofs.lemmas.Bool.{cases_eq, both_ways, true≢false, eqb-false, ne_eqb, not-true, not_from_false}
 use Rattle.std.proofs.lemmas.List.{get_or-set_same, get_or-set_other}
 use Rattle.std.proofs.lemmas.List.FromFn.{length-range_with_len, get_or-range_with_len}
-use Rattle.hg_base.specs.Tree.{ParentTree, parent, ancestor, IsAbove}
-use Rattle.hg_base.specs.Levels.{IsClimbing}
-use Rattle.hg_base.proofs.Climbs.{ancestor-root, ancestor-within, above-on, above-next, above-parent, above-rises}
+use Rattle.tree_laws.specs.Tree.{ParentTree, parent, ancestor, IsAbove}
+use Rattle.tree_laws.specs.Levels.{IsClimbing}
+use Rattle.tree_laws.proofs.Climbs.{ancestor-root, ancestor-within, above-on, above-next, above-parent, above-rises}
 use Rattle.watershed_cut.specs.TreePasses.{Holds, AreLeafHolders, AreHolders, IsNearest, AreNearest}
 
 -- no leaf is marked yet

@@ -3,21 +3,21 @@ use Rattle.std.proofs.Common.{◌≡◌, ℕ, zero, suc, ◌+◌, ◌-◌, ◌<�
 use Rattle.std.specs.Prelude.{Option, Some, unwrap_or, slice_get, filter, nat_lt}
 use Rattle.std.proofs.lemmas.Bool.{both_ways, and_from, and_left, and_right, cond-true, cond-false, not_from_false, false_from_ne_true, ltb-true}
 use Rattle.hg_base.specs.Graph.{WeightedGraph, first_end, second_end}
-use Rattle.hg_base.specs.Edges.{ListedEdge, EdgeList, IsIn, AreApart, AreWithin, joined, below, joins, is_joining}
-use Rattle.hg_base.specs.Rank.{ranked}
-use Rattle.hg_base.specs.Tree.{IsAbove, tree_of, graph_tree, place}
-use Rattle.hg_base.specs.Zones.{maker}
-use Rattle.hg_base.proofs.Components.{IsIn-append}
-use Rattle.hg_base.proofs.Fronts.{joined-step_with}
-use Rattle.hg_base.proofs.FrontOnce.{leaf_or_made, leaf-alone}
-use Rattle.hg_base.proofs.FrontTree.{above-made}
-use Rattle.hg_base.proofs.Link.{link_cases}
-use Rattle.hg_base.proofs.Members.{IsIn-filter}
-use Rattle.hg_base.proofs.Nodes.{slice_get-mapped, joins-at, length-parents}
-use Rattle.hg_base.proofs.TreeNodes.{made-within}
-use Rattle.hg_base.proofs.Ranked.{ranked-at, AreApart-ranked}
-use Rattle.hg_base.proofs.Sets.{IsIn-joins_kept, joined-among}
-use Rattle.hg_base.proofs.Walks.{IsSame-joined, joined-ends, Joined-joined}
+use Rattle.edge_laws.specs.Edges.{ListedEdge, EdgeList, AreApart, AreWithin, joined, below, joins, is_joining}
+use Rattle.hg_base.specs.Lists.{IsIn}
+use Rattle.edge_laws.specs.Rank.{ranked}
+use Rattle.tree_laws.specs.Tree.{IsAbove, tree_of, graph_tree, place}
+use Rattle.tree_laws.specs.Zones.{maker}
+use Rattle.hg_base.proofs.Lists.{IsIn-append, IsIn-filter, slice_get-mapped}
+use Rattle.edge_laws.proofs.Fronts.{joined-step_with}
+use Rattle.tree_laws.proofs.FrontOnce.{leaf_or_made, leaf-alone}
+use Rattle.tree_laws.proofs.FrontTree.{above-made}
+use Rattle.edge_laws.proofs.Link.{link_cases}
+use Rattle.tree_laws.proofs.Nodes.{joins-at, length-parents}
+use Rattle.tree_laws.proofs.TreeNodes.{made-within}
+use Rattle.edge_laws.proofs.Ranked.{ranked-at, AreApart-ranked}
+use Rattle.edge_laws.proofs.Sets.{IsIn-joins_kept, joined-among}
+use Rattle.edge_laws.proofs.Walks.{IsSame-joined, joined-ends, Joined-joined}
 use Rattle.watershed_cut.specs.Minima.{IsMinimumEdge, InMinimum}
 use Rattle.watershed_cut.specs.MinimumTests.{is_minimum, minimum_edges}
 use Rattle.watershed_cut.specs.Forest.{reaches, is_forest, trees}

@@ -2,15 +2,15 @@
 use Rattle.std.proofs.Common.{◌≡◌, ℕ, ◌+◌, ◌<◌, true, inl, inr, sym, subst, ◌∙◌, arith, length, map, Result, Ok, Err}
 use Rattle.std.specs.Prelude.{◌↔◌, IfOk, filter}
 use Rattle.std.proofs.lemmas.List.FromFn.{get_or-map-range_with_len, length-map-range_with_len}
-use Rattle.hg_base.specs.Edges.{ListedEdge, IsIn, Joined}
+use Rattle.edge_laws.specs.Edges.{ListedEdge, Joined}
+use Rattle.hg_base.specs.Lists.{IsIn}
 use Rattle.hg_base.specs.Graph.{WeightedGraph, IsGraph, first_end, second_end}
-use Rattle.hg_base.specs.Rank.{numbers, ranked}
-use Rattle.hg_base.proofs.Components.{IsIn-append, IsIn-append_back}
-use Rattle.hg_base.proofs.Drops.{holds}
-use Rattle.hg_base.proofs.Members.{IsIn-filter, IsIn-kept}
-use Rattle.hg_base.proofs.Ranked.{AreApart-ranked, AreWithin-ranked}
-use Rattle.hg_base.proofs.Sets.{joined-among}
-use Rattle.hg_base.proofs.Walks.{Joined-joined}
+use Rattle.edge_laws.specs.Rank.{numbers, ranked}
+use Rattle.hg_base.proofs.Lists.{IsIn-append, IsIn-append_back, IsIn-filter, IsIn-kept}
+use Rattle.edge_laws.proofs.Drops.{holds}
+use Rattle.edge_laws.proofs.Ranked.{AreApart-ranked, AreWithin-ranked}
+use Rattle.edge_laws.proofs.Sets.{joined-among}
+use Rattle.edge_laws.proofs.Walks.{Joined-joined}
 use Rattle.watershed_cut.specs.Forest.{forest, is_forest, trees}
 use Rattle.watershed_cut.specs.MinimumLabels.{numbered}
 use Rattle.watershed_cut.specs.MinimumTests.{minimum_edges}

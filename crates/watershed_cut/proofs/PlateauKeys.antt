@@ -2,14 +2,14 @@
 use Rattle.std.proofs.Common.{◌≡◌, ℕ, ◌<◌, ◌≤◌, inl, inr, refl, sym, ◌∙◌, subst, arith, List, [], length}
 use Rattle.std.specs.Prelude.{Option, ◌==◌}
 use Rattle.std.proofs.lemmas.Bool.{cases_eq, false_from_ne_true, eqb-true, eq-eqb}
-use Rattle.hg_base.specs.Edges.{EdgeList, Joined}
+use Rattle.edge_laws.specs.Edges.{EdgeList, Joined}
 use Rattle.hg_base.specs.Numbering.{has_key, same_key}
-use Rattle.hg_base.specs.Saliency.{at_most}
-use Rattle.hg_base.specs.Tree.{ParentTree, parent, altitude, IsAbove}
-use Rattle.hg_base.specs.Levels.{IsClimbing, IsTop}
-use Rattle.hg_base.proofs.Sets.{same_test}
-use Rattle.hg_base.proofs.Climbs.{above-rises}
-use Rattle.hg_base.proofs.Tops.{top-parent, top-shares}
+use Rattle.edge_laws.specs.Saliency.{at_most}
+use Rattle.tree_laws.specs.Tree.{ParentTree, parent, altitude, IsAbove}
+use Rattle.tree_laws.specs.Levels.{IsClimbing, IsTop}
+use Rattle.edge_laws.proofs.Sets.{same_test}
+use Rattle.tree_laws.proofs.Climbs.{above-rises}
+use Rattle.tree_laws.proofs.Tops.{top-parent, top-shares}
 use Rattle.partition_tree.proofs.ForestClimbs.{forest-climbs}
 use Rattle.watershed_cut.specs.Minima.{HasNoEdge, InMinimum, SameMinimum}
 use Rattle.watershed_cut.specs.MinimumTests.{in_minimum, same_minimum}

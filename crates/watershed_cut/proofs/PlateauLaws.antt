@@ -2,15 +2,16 @@
 use Rattle.std.proofs.Common.{◌≡◌, ℕ, zero, suc, ◌<◌, ◌≤◌, false, inl, inr, refl, sym, ◌∙◌, subst, ap, arith, List, [], ◌∷◌, length}
 use Rattle.std.specs.Prelude.{◌==◌, not, ◌&&◌}
 use Rattle.std.proofs.lemmas.Bool.{cases_lt, cases_eq, both_ways, and_parts, and_from, not-true, not_from_false, ne_eqb, eqb-false}
-use Rattle.hg_base.specs.Edges.{ListedEdge, EdgeList, IsIn, IsWalk, Joined}
-use Rattle.hg_base.specs.Saliency.{at_most}
-use Rattle.hg_base.specs.Tree.{ParentTree, parent, altitude, ancestor, IsAbove}
-use Rattle.hg_base.specs.Levels.{IsClimbing, AltitudesRise, is_above, IsTop, IsLevelTree}
+use Rattle.edge_laws.specs.Edges.{ListedEdge, EdgeList, IsWalk, Joined}
+use Rattle.hg_base.specs.Lists.{IsIn}
+use Rattle.edge_laws.specs.Saliency.{at_most}
+use Rattle.tree_laws.specs.Tree.{ParentTree, parent, altitude, ancestor, IsAbove}
+use Rattle.tree_laws.specs.Levels.{IsClimbing, AltitudesRise, is_above, IsTop, IsLevelTree}
 use Rattle.hg_base.proofs.Counts.{least_below}
-use Rattle.hg_base.proofs.Walks.{joined-ends, Joined-joined}
-use Rattle.hg_base.proofs.Climbs.{ancestor-first, ancestor-root, ancestor-within, above-on, above-next, above-either, above-within, above-altitude}
-use Rattle.hg_base.proofs.Tops.{is_above-from, is_above-to, top-above}
-use Rattle.hg_base.proofs.Weights.{Joined-heavier}
+use Rattle.edge_laws.proofs.Walks.{joined-ends, Joined-joined}
+use Rattle.tree_laws.proofs.Climbs.{ancestor-first, ancestor-root, ancestor-within, above-on, above-next, above-either, above-within, above-altitude}
+use Rattle.tree_laws.proofs.Tops.{is_above-from, is_above-to, top-above}
+use Rattle.edge_laws.proofs.Weights.{Joined-heavier}
 use Rattle.partition_tree.specs.Forest.{IsForest}
 use Rattle.partition_tree.proofs.ForestClimbs.{forest-climbs, forest-leaves}
 use Rattle.watershed_cut.specs.Minima.{IsEnd, IsMinimumEdge}

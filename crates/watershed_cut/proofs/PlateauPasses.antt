@@ -4,9 +4,9 @@ use Rattle.std.specs.List.{range_with_len}
 use Rattle.std.proofs.lemmas.Bool.{cases_eq}
 use Rattle.std.proofs.lemmas.List.{get_or-set_same, get_or-set_other}
 use Rattle.std.proofs.lemmas.List.FromFn.{length-range_with_len, get_or-range_with_len}
-use Rattle.hg_base.specs.Tree.{ParentTree, parent, altitude}
-use Rattle.hg_base.specs.Levels.{IsClimbing, AltitudesRise, IsTop}
-use Rattle.hg_base.proofs.Tops.{top-parent, top-self}
+use Rattle.tree_laws.specs.Tree.{ParentTree, parent, altitude}
+use Rattle.tree_laws.specs.Levels.{IsClimbing, AltitudesRise, IsTop}
+use Rattle.tree_laws.proofs.Tops.{top-parent, top-self}
 use Rattle.watershed_cut.specs.Passes.{IsPlateau, ArePlateaus}
 
 -- the plateaus once those of the nodes from i on are there

@@ -2,11 +2,12 @@
 use Rattle.std.proofs.Common.{◌≡◌, ℕ, ◌≤◌, true, refl, ◌∙◌, arith, List, [], ◌∷◌}
 use Rattle.std.specs.Prelude.{nat_le}
 use Rattle.std.proofs.lemmas.Bool.{le-leb, leb-true}
-use Rattle.hg_base.specs.Edges.{ListedEdge, EdgeList, IsIn, IsWalk, Joined, joined}
-use Rattle.hg_base.specs.Saliency.{at_most}
-use Rattle.hg_base.proofs.Members.{IsIn-filter, IsIn-kept}
-use Rattle.hg_base.proofs.Walks.{IsSame-joined, Joined-joined, walk-among}
-use Rattle.hg_base.proofs.Drops.{holds}
+use Rattle.edge_laws.specs.Edges.{ListedEdge, EdgeList, IsWalk, Joined, joined}
+use Rattle.hg_base.specs.Lists.{IsIn}
+use Rattle.edge_laws.specs.Saliency.{at_most}
+use Rattle.hg_base.proofs.Lists.{IsIn-filter, IsIn-kept}
+use Rattle.edge_laws.proofs.Walks.{IsSame-joined, Joined-joined, walk-among}
+use Rattle.edge_laws.proofs.Drops.{holds}
 use Rattle.watershed_cut.specs.Minima.{level, IsEnd, IsMinimumEdge}
 use Rattle.watershed_cut.proofs.MinimumWalks.{level-to, level-from, joined-own, step-first, step-second, minimum-next}
 

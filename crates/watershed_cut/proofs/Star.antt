@@ -4,12 +4,14 @@ use Rattle.std.specs.Prelude.{not, filter}
 use Rattle.std.specs.List.{range_with_len}
 use Rattle.std.proofs.lemmas.Bool.{cases_Bool, cases_lt, cases_order, both_ways, false_from_ne_true}
 use Rattle.std.proofs.lemmas.List.{length-map}
-use Rattle.hg_base.specs.Edges.{ListedEdge, EdgeList, IsIn, AreWithin, joined, count_below, components}
+use Rattle.edge_laws.specs.Edges.{ListedEdge, EdgeList, AreWithin, joined, components}
+use Rattle.hg_base.specs.Lists.{IsIn}
+use Rattle.hg_base.specs.Counting.{count_below}
 use Rattle.hg_base.proofs.Counts.{LeastBelow, least_below, count_below-zero}
-use Rattle.hg_base.proofs.Members.{IsIn-kept, IsIn-filter}
-use Rattle.hg_base.proofs.Sets.{joined-among}
-use Rattle.hg_base.proofs.Walks.{IsSame-joined, joined-ends, Joined-joined}
-use Rattle.hg_base.proofs.Drops.{holds}
+use Rattle.hg_base.proofs.Lists.{IsIn-kept, IsIn-filter}
+use Rattle.edge_laws.proofs.Sets.{joined-among}
+use Rattle.edge_laws.proofs.Walks.{IsSame-joined, joined-ends, Joined-joined}
+use Rattle.edge_laws.proofs.Drops.{holds}
 use Rattle.watershed_cut.specs.Minima.{level, IsMinimumEdge, HasNoEdge, InMinimum}
 use Rattle.watershed_cut.specs.MinimumTests.{in_minimum}
 use Rattle.watershed_cut.proofs.AnyIn.{range-to, range-from}

@@ -5,18 +5,19 @@ use Rattle.std.specs.List.{range_with_len}
 use Rattle.std.specs.Option.{is_some}
 use Rattle.std.proofs.lemmas.Bool.{cases_Bool, cases_order, both_ways, and_parts, and_from, false_from_ne_true, true≢false, eqb-true, eq-eqb, cond-true, not-true, not_from_false, ne_eqb, eqb-false}
 use Rattle.hg_base.specs.Graph.{WeightedGraph, IsGraph, first_end, second_end}
-use Rattle.hg_base.specs.Edges.{ListedEdge, EdgeList, IsIn, AreApart, AreWithin, Joined, joined, count_below}
+use Rattle.edge_laws.specs.Edges.{ListedEdge, EdgeList, AreApart, AreWithin, Joined, joined}
+use Rattle.hg_base.specs.Lists.{IsIn}
+use Rattle.hg_base.specs.Counting.{count_below}
 use Rattle.hg_base.specs.Labels.{IsLabel, least_of}
-use Rattle.hg_base.specs.Rank.{ranked}
-use Rattle.hg_base.proofs.Components.{IsIn-append}
+use Rattle.edge_laws.specs.Rank.{ranked}
+use Rattle.hg_base.proofs.Lists.{IsIn-append, IsIn-filter, IsIn-kept}
 use Rattle.hg_base.proofs.CountMore.{count_below-step}
 use Rattle.hg_base.proofs.Counts.{is_least-from}
-use Rattle.hg_base.proofs.Drops.{holds}
+use Rattle.edge_laws.proofs.Drops.{holds}
 use Rattle.hg_base.proofs.Leasts.{first_of, least_of-is, least_of-most, least_of-agree}
-use Rattle.hg_base.proofs.Members.{IsIn-filter, IsIn-kept}
-use Rattle.hg_base.proofs.Ranked.{AreApart-ranked, AreWithin-ranked, ends-within}
-use Rattle.hg_base.proofs.Sets.{same_test, joined-among}
-use Rattle.hg_base.proofs.Walks.{IsSame-joined, Joined-joined}
+use Rattle.edge_laws.proofs.Ranked.{AreApart-ranked, AreWithin-ranked, ends-within}
+use Rattle.edge_laws.proofs.Sets.{same_test, joined-among}
+use Rattle.edge_laws.proofs.Walks.{IsSame-joined, Joined-joined}
 use Rattle.watershed_cut.specs.Minima.{InMinimum, SameMinimum}
 use Rattle.watershed_cut.specs.MinimumTests.{minimum_edges, in_minimum, same_minimum, is_head, minimum_count, vertex_label}
 use Rattle.watershed_cut.specs.Forest.{is_forest, trees, IsForestList}

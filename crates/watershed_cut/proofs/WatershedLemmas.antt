@@ -5,16 +5,17 @@ use Rattle.std.specs.List.{range_with_len}
 use Rattle.std.proofs.lemmas.Bool.{cases_Bool, and_parts, cond-true, cond-false, ne_eqb, eq-eqb}
 use Rattle.std.proofs.lemmas.List.FromFn.{length-map-range_with_len, get_or-map-range_with_len}
 use Rattle.hg_base.specs.Graph.{WeightedGraph, first_end, second_end}
-use Rattle.hg_base.specs.Edges.{ListedEdge, EdgeList, IsIn, AreApart, AreWithin, joins, is_joining}
+use Rattle.edge_laws.specs.Edges.{ListedEdge, EdgeList, AreApart, AreWithin, joins, is_joining}
+use Rattle.hg_base.specs.Lists.{IsIn}
 use Rattle.hg_base.specs.Labels.{Labelling, IsLabel, IsLabelling}
-use Rattle.hg_base.specs.Rank.{numbers, ranked}
-use Rattle.hg_base.specs.Tree.{ParentTree, graph_tree, place}
-use Rattle.hg_base.specs.Zones.{maker}
-use Rattle.hg_base.proofs.FrontOnce.{leaf_or_made}
+use Rattle.edge_laws.specs.Rank.{numbers, ranked}
+use Rattle.tree_laws.specs.Tree.{ParentTree, graph_tree, place}
+use Rattle.tree_laws.specs.Zones.{maker}
+use Rattle.tree_laws.proofs.FrontOnce.{leaf_or_made}
 use Rattle.hg_base.proofs.Leasts.{map-agree}
-use Rattle.hg_base.proofs.Ranked.{AreApart-ranked, IsIn-ranked}
-use Rattle.hg_base.proofs.Sets.{same_test, IsIn-joins, IsIn-joins_kept}
-use Rattle.hg_base.proofs.TreeNodes.{made-within}
+use Rattle.edge_laws.proofs.Ranked.{AreApart-ranked, IsIn-ranked}
+use Rattle.edge_laws.proofs.Sets.{same_test, IsIn-joins, IsIn-joins_kept}
+use Rattle.tree_laws.proofs.TreeNodes.{made-within}
 use Rattle.partition_tree.specs.Forest.{IsForest}
 use Rattle.watershed_cut.specs.MinimumTests.{is_minimum, minimum_count, vertex_label, edge_label}
 use Rattle.watershed_cut.specs.MinimumLabels.{LabelledMinima, numbered, minima_of}

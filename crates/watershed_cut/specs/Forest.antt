@@ -2,8 +2,9 @@
 use Rattle.std.specs.Prelude.{◌≡◌, ℕ, Bool, true, not, ◌&&◌, ◌⊎◌, List, ◌++◌, filter}
 use Rattle.std.specs.List.{range_with_len, list_any}
 use Rattle.hg_base.specs.Graph.{WeightedGraph}
-use Rattle.hg_base.specs.Edges.{ListedEdge, EdgeList, IsIn, AreApart, Joined, joined, below, is_joining, joins}
-use Rattle.hg_base.specs.Rank.{numbers, ranked}
+use Rattle.edge_laws.specs.Edges.{ListedEdge, EdgeList, AreApart, Joined, joined, below, is_joining, joins}
+use Rattle.hg_base.specs.Lists.{IsIn}
+use Rattle.edge_laws.specs.Rank.{numbers, ranked}
 use Rattle.watershed_cut.specs.Minima.{IsMinimumEdge, InMinimum}
 use Rattle.watershed_cut.specs.MinimumTests.{is_minimum, minimum_edges, in_minimum}
 use Rattle.watershed_cut.specs.MinimumLabels.{numbered}

@@ -1,6 +1,7 @@
 -- Minima of an edge list over the vertices 0 to n - 1 (Cousty, Bertrand, Najman and Couprie, Watershed Cuts, 2009).
 use Rattle.std.specs.Prelude.{◌≡◌, ◌==◌, ℕ, ◌<◌, ◌≤◌, ◌⊎◌, filter}
-use Rattle.hg_base.specs.Edges.{ListedEdge, EdgeList, IsIn, Joined}
+use Rattle.edge_laws.specs.Edges.{ListedEdge, EdgeList, Joined}
+use Rattle.hg_base.specs.Lists.{IsIn}
 
 -- the edges of weight k
 abbrev pub level : EdgeList → ℕ → EdgeList

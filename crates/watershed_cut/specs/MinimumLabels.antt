@@ -2,8 +2,8 @@
 use Rattle.std.specs.Prelude.{ℕ, List, map}
 use Rattle.std.specs.List.{range_with_len}
 use Rattle.hg_base.specs.Graph.{WeightedGraph}
-use Rattle.hg_base.specs.Edges.{ListedEdge}
-use Rattle.hg_base.specs.Rank.{numbers, rank, listed, ranked}
+use Rattle.edge_laws.specs.Edges.{ListedEdge}
+use Rattle.edge_laws.specs.Rank.{numbers, rank, listed, ranked}
 use Rattle.watershed_cut.specs.MinimumTests.{minimum_count, vertex_label, edge_label}
 
 -- minima as contracts see them: how many there are, and the labels of the vertices and of the edges, by number

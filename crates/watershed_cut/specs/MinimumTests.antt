@@ -1,7 +1,8 @@
 -- The tests of minimum edges and of vertices in minima, and the labels of minima: 1, 2, .. in order of their heads.
 use Rattle.std.specs.Prelude.{◌==◌, ℕ, suc, Bool, not, ◌&&◌, ◌||◌, filter, nat_lt, if◌then◌else◌}
 use Rattle.std.specs.List.{list_any}
-use Rattle.hg_base.specs.Edges.{ListedEdge, EdgeList, joined, count_below, is_least}
+use Rattle.edge_laws.specs.Edges.{ListedEdge, EdgeList, joined}
+use Rattle.hg_base.specs.Counting.{count_below, is_least}
 use Rattle.hg_base.specs.Labels.{least_of}
 use Rattle.watershed_cut.specs.Minima.{level}
 

@@ -1,9 +1,9 @@
 -- What the passes over a tree's nodes give.
 use Rattle.std.specs.Prelude.{◌≡◌, ◌≢◌, ◌↔◌, ◌==◌, ℕ, ◌<◌, ◌≤◌, ◌⊎◌, Bool, true, false, List, length, get_or, map, Option, Some, None, if◌then◌else◌}
 use Rattle.hg_base.specs.Graph.{WeightedGraph, first_end, second_end, weight}
-use Rattle.hg_base.specs.Rank.{numbers}
-use Rattle.hg_base.specs.Tree.{ParentTree, parent, altitude}
-use Rattle.hg_base.specs.Levels.{IsTop}
+use Rattle.edge_laws.specs.Rank.{numbers}
+use Rattle.tree_laws.specs.Tree.{ParentTree, parent, altitude}
+use Rattle.tree_laws.specs.Levels.{IsTop}
 
 -- j is the plateau of node i: the last node on its path that has its altitude
 abbrev pub IsPlateau : ParentTree → ℕ → ℕ → Type 0

@@ -2,8 +2,9 @@
 use Rattle.std.specs.Prelude.{◌≡◌, ◌==◌, ℕ, ◌<◌, not, List, ◌++◌, length, map, All}
 use Rattle.std.specs.List.{IsDistinct, sum_by}
 use Rattle.hg_base.specs.Graph.{WeightedGraph, weight}
-use Rattle.hg_base.specs.Edges.{EdgeList, Joined, count_below}
-use Rattle.hg_base.specs.Rank.{ranked}
+use Rattle.edge_laws.specs.Edges.{EdgeList, Joined}
+use Rattle.hg_base.specs.Counting.{count_below}
+use Rattle.edge_laws.specs.Rank.{ranked}
 use Rattle.watershed_cut.specs.Minima.{IsMinimumEdge, InMinimum, SameMinimum}
 use Rattle.watershed_cut.specs.MinimumTests.{minimum_edges, in_minimum}
 use Rattle.watershed_cut.specs.MinimumLabels.{numbered}

@@ -1,9 +1,9 @@
 -- What the passes give that find the forest and the labels of its trees.
 use Rattle.std.specs.Prelude.{◌≡◌, ◌↔◌, ◌==◌, ℕ, ◌<◌, ◌≤◌, Bool, true, false, not, ◌&&◌, List, length, get_or, filter, nat_lt, if◌then◌else◌}
 use Rattle.hg_base.specs.Graph.{WeightedGraph, first_end, second_end}
-use Rattle.hg_base.specs.Rank.{numbers}
-use Rattle.hg_base.specs.Tree.{ParentTree, IsAbove}
-use Rattle.hg_base.specs.Zones.{maker}
+use Rattle.edge_laws.specs.Rank.{numbers}
+use Rattle.tree_laws.specs.Tree.{ParentTree, IsAbove}
+use Rattle.tree_laws.specs.Zones.{maker}
 
 -- node i is above a leaf whose label isn't 0
 abbrev pub Holds : ParentTree → List ℕ → ℕ → Type 0

@@ -2,8 +2,9 @@
 use Rattle.std.specs.Prelude.{◌≡◌, ◌↔◌, ℕ, ◌==◌, ◌<◌, ◌≤◌, Bool, not, ◌&&◌, List, length, get_or, map, filter, find, unwrap_or}
 use Rattle.std.specs.List.{range_with_len, list_any}
 use Rattle.hg_base.specs.Graph.{WeightedGraph, first_end, second_end}
-use Rattle.hg_base.specs.Edges.{EdgeList, IsIn, Joined, joined}
-use Rattle.hg_base.specs.Rank.{numbers, ranked}
+use Rattle.edge_laws.specs.Edges.{EdgeList, Joined, joined}
+use Rattle.hg_base.specs.Lists.{IsIn}
+use Rattle.edge_laws.specs.Rank.{numbers, ranked}
 use Rattle.hg_base.specs.Labels.{Labelling}
 use Rattle.watershed_cut.specs.Minima.{InMinimum}
 use Rattle.watershed_cut.specs.MinimumTests.{minimum_count, vertex_label}

@@ -1,7 +1,7 @@
 ghost use Rattle.std.specs.Prelude.{◌≡◌, ◌==◌, ℕ, ◌<◌, ◌≤◌, not, IfOk, length, false, get_or, filter};
 ghost use Rattle.std.specs.List.{range_with_len};
 ghost use Rattle.hg_base.specs.Graph.{first_end, second_end};
-ghost use Rattle.hg_base.specs.Tree.{graph_tree};
+ghost use Rattle.tree_laws.specs.Tree.{graph_tree};
 ghost use Rattle.edge_order.specs.Order.{order_of};
 ghost use Rattle.watershed_cut.specs.MinimumLabels.{minima_of};
 ghost use Rattle.watershed_cut.specs.Passes.{HasTwoEnds};

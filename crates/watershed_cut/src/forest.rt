@@ -1,7 +1,7 @@
 ghost use Rattle.std.specs.Prelude.{◌≡◌, ℕ, ◌<◌, ◌≤◌, List, map, IfOk, length, get_or};
 ghost use Rattle.std.specs.List.{range_with_len};
-ghost use Rattle.hg_base.specs.Tree.{graph_tree};
-ghost use Rattle.hg_base.specs.Zones.{maker};
+ghost use Rattle.tree_laws.specs.Tree.{graph_tree};
+ghost use Rattle.tree_laws.specs.Zones.{maker};
 ghost use Rattle.partition_tree.specs.Forest.{nodes};
 ghost use Rattle.watershed_cut.specs.TreePasses.{AreNearest, makes_forest, AreChosen, held_end, AreLeafLabels, AreNodeLabels};
 

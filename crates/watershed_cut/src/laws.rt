@@ -2,8 +2,10 @@
 ghost use Rattle.std.specs.Prelude.{◌≡◌, ◌↔◌, ℕ, ◌<◌, ◌≤◌, not, List, ◌++◌, length, IsTrue};
 ghost use Rattle.hg_base.specs.Graph.{WeightedGraph, IsGraph, first_end, second_end};
 ghost use Rattle.hg_base.specs.Labels.{IsLabel};
-ghost use Rattle.hg_base.specs.Rank.{ranked};
-ghost use Rattle.hg_base.specs.Edges.{ListedEdge, EdgeList, IsIn, AreApart, AreWithin, Joined, count_below};
+ghost use Rattle.edge_laws.specs.Rank.{ranked};
+ghost use Rattle.edge_laws.specs.Edges.{ListedEdge, EdgeList, AreApart, AreWithin, Joined};
+ghost use Rattle.hg_base.specs.Lists.{IsIn};
+ghost use Rattle.hg_base.specs.Counting.{count_below};
 ghost use Rattle.watershed_cut.specs.Minima.{IsMinimumEdge, InMinimum, SameMinimum, IsHead};
 ghost use Rattle.watershed_cut.specs.MinimumTests.{is_minimum, in_minimum, same_minimum, is_head, minimum_edges, minimum_count, vertex_label, edge_label};
 ghost use Rattle.watershed_cut.specs.Forest.{Reaches, reaches, IsForestEdge, is_forest, trees, IsForestList, forest};

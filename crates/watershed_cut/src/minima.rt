@@ -1,5 +1,5 @@
 ghost use Rattle.std.specs.Prelude.{◌≡◌, ℕ, ◌<◌, IfOk, length, slice_get, Some};
-ghost use Rattle.hg_base.specs.Tree.{graph_tree};
+ghost use Rattle.tree_laws.specs.Tree.{graph_tree};
 ghost use Rattle.edge_order.specs.Order.{order_of};
 ghost use Rattle.watershed_cut.specs.MinimumLabels.{minima_of};
 ghost use Rattle.watershed_cut.specs.Passes.{HasTwoEnds, level_label, level_labels};

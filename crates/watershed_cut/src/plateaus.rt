@@ -1,6 +1,6 @@
 ghost use Rattle.std.specs.Prelude.{◌≡◌, ◌<◌, IfOk};
 ghost use Rattle.std.specs.List.{range_with_len};
-ghost use Rattle.hg_base.specs.Levels.{AltitudesRise};
+ghost use Rattle.tree_laws.specs.Levels.{AltitudesRise};
 ghost use Rattle.partition_tree.specs.Forest.{nodes, IsForest};
 ghost use Rattle.watershed_cut.specs.Passes.{ArePlateaus, AreOverLower, IsPlateauKey, ArePlateauKeys};
 

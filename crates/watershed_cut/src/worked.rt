@@ -2,7 +2,7 @@
 //! worked out by hand. No code runs.
 ghost use Rattle.std.specs.Prelude.{◌≡◌, [], ◌∷◌, map};
 ghost use Rattle.hg_base.specs.Graph.{with_unit_areas};
-ghost use Rattle.hg_base.specs.Worked.{edge};
+ghost use Rattle.tree_laws.specs.Worked.{edge};
 ghost use Rattle.watershed_cut.specs.MinimumLabels.{minima_of};
 ghost use Rattle.watershed_cut.specs.Rooted.{cost};
 ghost use Rattle.watershed_cut.specs.Watershed.{watershed_of};

@@ -1,4 +1,4 @@
-use Rattle.hg_base.specs.Tree.{graph_tree}
+use Rattle.tree_laws.specs.Tree.{graph_tree}
 use Rattle.attributes.specs.Attributes.{vertices, altitude_over}
 use Rattle.attributes.proofs.LowFloors.{floors-low}
 use Rattle.attributes.proofs.Totals.{balance, vertex-in}

@@ -1,5 +1,6 @@
 use Rattle.std.proofs.Common.{◌≡◌, ◌≢◌, ◌<◌, ℕ, inl, inr, sym, ◌∙◌, subst, ap, arith, List, [], ◌∷◌, map}
-use Rattle.hg_base.specs.Edges.{ListedEdge, IsIn}
+use Rattle.edge_laws.specs.Edges.{ListedEdge}
+use Rattle.hg_base.specs.Lists.{IsIn}
 use Rattle.hg_base.specs.declared.graph.PlacedEdge.{PlacedEdge}
 use Rattle.node_region.specs.Pool.{IsCovered, fresh_pool}
 use Rattle.border_climb.specs.Parts.{listed}

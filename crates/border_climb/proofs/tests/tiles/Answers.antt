@@ -1,5 +1,5 @@
 use Rattle.std.proofs.Common.{◌≡◌, ℕ, inl, inr, refl, sym, subst, arith, [], ◌∷◌}
-use Rattle.hg_base.specs.Edges.{IsIn}
+use Rattle.hg_base.specs.Lists.{IsIn}
 use Rattle.hg_base.specs.declared.graph.PlacedEdge.{PlacedEdge}
 use Rattle.node_region.specs.Pool.{CellPool, IsCovered}
 use Rattle.border_climb.specs.Stands.{PartState}

@@ -1,7 +1,7 @@
 use Rattle.std.proofs.Common.{◌≡◌, ℕ, ◌≤◌, sym, ◌∙◌, subst, ap}
 use Rattle.std.proofs.lemmas.Result.{IfOk-weaker}
-use Rattle.hg_base.specs.Rank.{ranked}
-use Rattle.hg_base.specs.Tree.{ParentTree, altitude, tree_of}
+use Rattle.edge_laws.specs.Rank.{ranked}
+use Rattle.tree_laws.specs.Tree.{ParentTree, altitude, tree_of}
 use Rattle.component_tree.specs.Components.{ComponentLists, IsComponentTree}
 use Rattle.component_tree.specs.MinTree.{turned, value_at, component_tree_of}
 use Rattle.component_tree.specs.Passes.{HasLeaves, AreFloodEdges, IsTurnedTree}

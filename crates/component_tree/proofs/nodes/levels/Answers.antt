@@ -1,6 +1,6 @@
 use Rattle.std.proofs.Common.{◌≡◌, ℕ, ◌≤◌, List, ◌∙◌, ap, arith, length, map}
 use Rattle.std.specs.List.{range_with_len}
-use Rattle.hg_base.specs.Tree.{altitude}
+use Rattle.tree_laws.specs.Tree.{altitude}
 use Rattle.component_tree.specs.MinTree.{turned, value_at}
 use Rattle.std.proofs.lemmas.List.FromFn.{length-map-range_with_len}
 use Rattle.component_tree.specs.Passes.{level_in}

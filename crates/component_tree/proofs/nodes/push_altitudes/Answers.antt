@@ -1,5 +1,5 @@
 use Rattle.std.proofs.Common.{arith}
-use Rattle.hg_base.specs.Tree.{altitude}
+use Rattle.tree_laws.specs.Tree.{altitude}
 use Rattle.component_tree.proofs.PassSteps.{values_behind}
 use Rattle.component_tree.proofs.nodes.push_altitudes.Goals as goal
 

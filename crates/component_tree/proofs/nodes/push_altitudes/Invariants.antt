@@ -1,6 +1,6 @@
 use Rattle.std.proofs.Common.{◌≡◌, ◌++◌, ◌-◌, map}
 use Rattle.std.specs.List.{range_with_len}
-use Rattle.hg_base.specs.Tree.{altitude}
+use Rattle.tree_laws.specs.Tree.{altitude}
 use Rattle.component_tree.proofs.nodes.push_altitudes.Given as goal
 
 -- the inner nodes so far have their altitudes

@@ -1,5 +1,5 @@
 use Rattle.std.proofs.Common.{ℕ, sym, ◌∙◌, ap, List, length}
-use Rattle.hg_base.specs.Tree.{tree_of, graph_tree}
+use Rattle.tree_laws.specs.Tree.{tree_of, graph_tree}
 use Rattle.component_tree.specs.Weighed.{weighed_graph}
 use Rattle.component_tree.proofs.tests.components.Goals as goal
 

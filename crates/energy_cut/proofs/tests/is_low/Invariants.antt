@@ -1,5 +1,5 @@
 use Rattle.std.proofs.Common.{ℕ, ◌<◌, ◌^◌}
-use Rattle.hg_base.specs.Tree.{altitude}
+use Rattle.tree_laws.specs.Tree.{altitude}
 use Rattle.energy_cut.proofs.tests.is_low.Given as goal
 
 -- the altitudes so far are low

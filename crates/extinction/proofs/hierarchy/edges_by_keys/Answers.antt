@@ -1,9 +1,9 @@
 use Rattle.std.proofs.Common.{◌≡◌, ◌∙◌, ap, arith, length}
 use Rattle.std.proofs.lemmas.List.{length-map}
 use Rattle.std.proofs.lemmas.List.Elements.{All-push}
-use Rattle.hg_base.specs.Edges.{ListedEdge, joins}
-use Rattle.hg_base.specs.Rank.{ranked}
-use Rattle.hg_base.specs.Tree.{ParentTree}
+use Rattle.edge_laws.specs.Edges.{ListedEdge, joins}
+use Rattle.edge_laws.specs.Rank.{ranked}
+use Rattle.tree_laws.specs.Tree.{ParentTree}
 use Rattle.partition_tree.specs.Ranked.{JoinsTwo}
 use Rattle.extinction.proofs.HierarchyLemmas.{listed-more, listed-all, key-within}
 use Rattle.extinction.proofs.hierarchy.edges_by_keys.Goals as goal

@@ -1,10 +1,10 @@
 use Rattle.std.proofs.Common.{◌≡◌, ◌<◌, ℕ, List, sym, ◌∙◌, ap, subst, length}
 use Rattle.std.specs.Prelude.{◌↔◌}
 use Rattle.std.proofs.lemmas.List.{length-map}
-use Rattle.hg_base.specs.Edges.{ListedEdge, joins}
-use Rattle.hg_base.specs.Rank.{ranked}
-use Rattle.hg_base.specs.Tree.{ParentTree, tree_of}
-use Rattle.hg_base.specs.Levels.{AltitudesRise, Shares}
+use Rattle.edge_laws.specs.Edges.{ListedEdge, joins}
+use Rattle.edge_laws.specs.Rank.{ranked}
+use Rattle.tree_laws.specs.Tree.{ParentTree, tree_of}
+use Rattle.tree_laws.specs.Levels.{AltitudesRise, Shares}
 use Rattle.partition_tree.specs.declared.list.Ranked.{Ranked}
 use Rattle.partition_tree.specs.Ranked.{IsRankedList, edges_of}
 use Rattle.partition_tree.proofs.ListLemmas.{edges-apart}

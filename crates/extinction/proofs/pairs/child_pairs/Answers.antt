@@ -1,6 +1,5 @@
 use Rattle.std.proofs.Common.{◌-◌, ◌+◌, ℕ, List, Vec, Global, sym, ◌∙◌, ap, subst, arith, length, get_or, set, drop}
-use Rattle.extinction.proofs.PairLemmas.{written-back}
-use Rattle.extinction.proofs.PairLemmas.{ArePairsTo, pairs-first, pairs-root, pairs-more, pairs-all}
+use Rattle.extinction.proofs.PairLemmas.{written-back, ArePairsTo, pairs-first, pairs-root, pairs-more, pairs-all}
 use Rattle.extinction.proofs.pairs.child_pairs.Goals as goal
 use Rattle.extinction.proofs.pairs.child_pairs.Goals.{then-parent-j, else-parent-j}
 

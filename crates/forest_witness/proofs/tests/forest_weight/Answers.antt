@@ -1,5 +1,5 @@
 use Rattle.std.proofs.Common.{sym, ◌∙◌, ap}
-use Rattle.hg_base.specs.Tree.{tree_of, graph_tree}
+use Rattle.tree_laws.specs.Tree.{tree_of, graph_tree}
 use Rattle.forest_witness.proofs.tests.forest_weight.Goals as goal
 
 pub of-requires-2-clause-tree : goal.of-requires-2-clause-tree

@@ -1,6 +1,6 @@
 use Rattle.std.proofs.Common.{◌≡◌, All, map, take}
 use Rattle.hg_base.specs.Graph.{JoinsTwo}
-use Rattle.hg_base.specs.Worked.{edge}
+use Rattle.tree_laws.specs.Worked.{edge}
 use Rattle.forest_witness.proofs.tests.graph_of.Given as goal
 
 -- the rows so far are edges

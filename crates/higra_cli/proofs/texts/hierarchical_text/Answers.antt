@@ -2,7 +2,7 @@ use Rattle.std.proofs.Common.{◌≡◌, ℕ, List, subst, ◌∙◌}
 use Rattle.std.specs.Prelude.{IfOk}
 use Rattle.extinction.specs.Report.{hierarchical_report}
 use Rattle.extinction.specs.Survivors.{extinctions_of}
-use Rattle.hg_base.specs.Tree.{ParentTree}
+use Rattle.tree_laws.specs.Tree.{ParentTree}
 use Rattle.higra_cli.proofs.texts.hierarchical_text.Goals as goal
 
 pub returns : goal.returns

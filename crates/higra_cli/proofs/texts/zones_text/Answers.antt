@@ -1,6 +1,6 @@
 use Rattle.std.proofs.Common.{◌≡◌, subst}
 use Rattle.std.specs.Prelude.{IfOk}
-use Rattle.hg_base.specs.Tree.{ParentTree}
+use Rattle.tree_laws.specs.Tree.{ParentTree}
 use Rattle.partition_tree.specs.Report.{tree_report}
 use Rattle.higra_cli.proofs.CutLemmas.{zones_are}
 use Rattle.higra_cli.proofs.texts.zones_text.Goals as goal

@@ -1,5 +1,5 @@
 use Rattle.std.proofs.Common.{List, map, sym, subst}
-use Rattle.hg_base.specs.Placed.{placed}
+use Rattle.edge_laws.specs.Placed.{placed}
 use Rattle.hg_base.specs.declared.graph.PlacedEdge.{PlacedEdge}
 use Rattle.border_climb.specs.Parts.{CanJoin}
 use Rattle.tile_plan.specs.Plan.{left, right, edges_at, lot_edges}

@@ -1,6 +1,6 @@
 use Rattle.std.proofs.Common.{◌≡◌, sym, ◌∙◌, ap, arith, refl}
 use Rattle.std.specs.Prelude.{◌+◌}
-use Rattle.hg_base.specs.Tree.{parent}
+use Rattle.tree_laws.specs.Tree.{parent}
 use Rattle.partition_tree.specs.Climbs.{depth}
 use Rattle.partition_tree.proofs.PathLemmas.{above-self, above-on}
 use Rattle.partition_tree.proofs.ClimbLemmas.{climbs-fewer, depth-fits}

@@ -1,6 +1,6 @@
 use Rattle.std.proofs.Common.{sym, ◌∙◌, subst}
-use Rattle.hg_base.specs.Tree.{ParentTree, IsFrontTree}
-use Rattle.hg_base.proofs.FrontOnce.{front-tree}
+use Rattle.tree_laws.specs.Tree.{ParentTree, IsFrontTree}
+use Rattle.tree_laws.proofs.FrontOnce.{front-tree}
 use Rattle.node_region.specs.Pool.{count}
 use Rattle.partition_tree.specs.Forest.{lists_of}
 use Rattle.partition_tree.specs.Ranked.{edges_of}

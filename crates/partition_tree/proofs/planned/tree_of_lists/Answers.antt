@@ -1,5 +1,5 @@
 use Rattle.std.proofs.Common.{◌≤◌, sym, ◌∙◌, subst}
-use Rattle.hg_base.specs.Tree.{ParentTree, IsFrontTree}
+use Rattle.tree_laws.specs.Tree.{ParentTree, IsFrontTree}
 use Rattle.tile_plan.specs.Plan.{vertices}
 use Rattle.partition_tree.specs.Forest.{lists_of}
 use Rattle.partition_tree.proofs.PlannedTree.{drawn-tree, drawn-forest, planned-fronts}

@@ -1,6 +1,6 @@
 use Rattle.std.proofs.Common.{sym, ◌∙◌, ap}
-use Rattle.hg_base.specs.Tree.{altitude}
-use Rattle.hg_base.specs.Zones.{keeps}
+use Rattle.tree_laws.specs.Tree.{altitude}
+use Rattle.tree_laws.specs.Zones.{keeps}
 use Rattle.quasi_flat_zones.proofs.PassLemmas.{values_more, values_same}
 use Rattle.quasi_flat_zones.proofs.lists.altitudes.Goals as goal
 use Rattle.quasi_flat_zones.proofs.lists.altitudes.Goals.{then-keeps+in_ok-push, else-keeps}

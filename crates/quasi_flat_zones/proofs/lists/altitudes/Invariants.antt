@@ -1,6 +1,6 @@
 use Rattle.std.proofs.Common.{◌≡◌, map}
-use Rattle.hg_base.specs.Tree.{altitude}
-use Rattle.hg_base.specs.Zones.{keeps}
+use Rattle.tree_laws.specs.Tree.{altitude}
+use Rattle.tree_laws.specs.Zones.{keeps}
 use Rattle.hg_base.proofs.Passing.{passing}
 use Rattle.quasi_flat_zones.proofs.lists.altitudes.Given as goal
 

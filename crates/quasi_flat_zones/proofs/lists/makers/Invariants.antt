@@ -1,6 +1,6 @@
 use Rattle.std.proofs.Common.{◌≡◌, map}
 use Rattle.std.specs.Prelude.{filter, nat_le}
-use Rattle.hg_base.specs.Zones.{keeps, maker}
+use Rattle.tree_laws.specs.Zones.{keeps, maker}
 use Rattle.hg_base.proofs.Passing.{passing}
 use Rattle.quasi_flat_zones.proofs.lists.makers.Given as goal
 

@@ -1,7 +1,7 @@
 use Rattle.std.proofs.Common.{ℕ, sym, ◌∙◌, ap, arith, get_or}
-use Rattle.hg_base.specs.Tree.{parent}
-use Rattle.hg_base.specs.Zones.{keeps, zone_number, next_kept}
-use Rattle.hg_base.proofs.Kept.{next_kept-parent}
+use Rattle.tree_laws.specs.Tree.{parent}
+use Rattle.tree_laws.specs.Zones.{keeps, zone_number, next_kept}
+use Rattle.tree_laws.proofs.Kept.{next_kept-parent}
 use Rattle.quasi_flat_zones.proofs.PassLemmas.{values_more, values_same}
 use Rattle.partition_tree.proofs.ForestClimbs.{forest-climbs}
 use Rattle.quasi_flat_zones.proofs.lists.parents.Goals as goal

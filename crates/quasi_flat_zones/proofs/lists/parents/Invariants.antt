@@ -1,5 +1,5 @@
 use Rattle.std.proofs.Common.{◌≡◌, map}
-use Rattle.hg_base.specs.Zones.{keeps, zone_number, next_kept}
+use Rattle.tree_laws.specs.Zones.{keeps, zone_number, next_kept}
 use Rattle.hg_base.proofs.Passing.{passing}
 use Rattle.quasi_flat_zones.proofs.lists.parents.Given as goal
 

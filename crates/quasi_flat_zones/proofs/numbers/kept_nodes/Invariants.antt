@@ -1,5 +1,5 @@
 use Rattle.std.proofs.Common.{◌≡◌, ℕ, ◌<◌, length, get_or, false}
-use Rattle.hg_base.specs.Zones.{keeps}
+use Rattle.tree_laws.specs.Zones.{keeps}
 use Rattle.quasi_flat_zones.proofs.numbers.kept_nodes.Given as goal
 
 -- the nodes so far are marked

@@ -1,5 +1,5 @@
 use Rattle.std.proofs.Common.{sym, ◌∙◌, arith}
-use Rattle.hg_base.specs.Zones.{keeps}
+use Rattle.tree_laws.specs.Zones.{keeps}
 use Rattle.hg_base.proofs.Passing.{count_below-most}
 use Rattle.quasi_flat_zones.proofs.PassLemmas.{kept_more, kept_same, numbers_more}
 use Rattle.quasi_flat_zones.proofs.numbers.zone_numbers.Goals as goal

@@ -1,6 +1,6 @@
 use Rattle.std.proofs.Common.{◌≡◌, map}
 use Rattle.std.specs.List.{range_with_len}
-use Rattle.hg_base.specs.Zones.{zone_number}
+use Rattle.tree_laws.specs.Zones.{zone_number}
 use Rattle.quasi_flat_zones.proofs.numbers.zone_numbers.Given as goal
 
 -- the kept nodes so far are counted, and each node so far has its number

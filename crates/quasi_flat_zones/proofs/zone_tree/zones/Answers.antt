@@ -1,7 +1,7 @@
 use Rattle.std.proofs.Common.{ℕ, sym, ◌∙◌, subst, ap}
 use Rattle.std.proofs.lemmas.Result.{IfOk-weaker}
-use Rattle.hg_base.specs.Tree.{ParentTree}
-use Rattle.hg_base.specs.Zones.{AreZones}
+use Rattle.tree_laws.specs.Tree.{ParentTree}
+use Rattle.tree_laws.specs.Zones.{AreZones}
 use Rattle.partition_tree.specs.Forest.{IsForest, lists_of}
 use Rattle.quasi_flat_zones.proofs.ForestLemmas.{zones-forest, zones-of_list}
 use Rattle.quasi_flat_zones.proofs.zone_tree.zones.Goals as goal

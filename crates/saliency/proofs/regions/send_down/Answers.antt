@@ -1,5 +1,5 @@
 use Rattle.std.proofs.Common.{◌≡◌, ◌+◌, ◌-◌, ◌<◌, ◌≤◌, ℕ, sym, subst, arith, length, get_or, set}
-use Rattle.hg_base.specs.Tree.{parent, altitude}
+use Rattle.tree_laws.specs.Tree.{parent, altitude}
 use Rattle.saliency.proofs.TopLemmas.{AreTopsFrom, tops_first, tops_self, tops_parent}
 use Rattle.partition_tree.proofs.ForestClimbs.{forest-climbs}
 use Rattle.saliency.proofs.regions.send_down.Goals as goal

@@ -1,7 +1,7 @@
 use Rattle.std.proofs.Common.{◌≡◌, ◌∙◌, ℕ, length, sym, subst, arith}
 use Rattle.std.proofs.lemmas.List.FromFn.{fill_by_all}
 use Rattle.hg_base.specs.Graph.{first_end, second_end}
-use Rattle.hg_base.specs.Saliencies.{saliency}
+use Rattle.edge_laws.specs.Saliencies.{saliency}
 use Rattle.saliency.specs.Values.{IsLowestAltitude}
 use Rattle.saliency.proofs.values.fill.Goals as goal
 

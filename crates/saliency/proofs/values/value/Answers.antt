@@ -2,8 +2,7 @@ use Rattle.std.proofs.Common.{ℕ, sym, subst}
 use Rattle.std.specs.Prelude.{Option, IfSome}
 use Rattle.std.proofs.lemmas.Bool.{some_since}
 use Rattle.hg_base.specs.Graph.{first_end}
-use Rattle.hg_base.specs.Tree.{ParentTree}
-use Rattle.hg_base.specs.Saliency.{IsLowestAbove}
+use Rattle.tree_laws.specs.Tree.{ParentTree, IsLowestAbove}
 use Rattle.partition_tree.specs.Paths.{ShareRoot}
 use Rattle.saliency.specs.Values.{EndsShareRoots}
 use Rattle.saliency.proofs.ValueLemmas.{first-is, second-is, lowest-saliency}

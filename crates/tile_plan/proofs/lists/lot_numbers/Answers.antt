@@ -1,8 +1,9 @@
 use Rattle.std.proofs.Common.{◌≡◌, ℕ, ◌-◌, ◌*◌, ◌≤◌, ◌∙◌, arith, sym, ap, subst, List, drop, length, slice_index}
 use Rattle.std.proofs.lemmas.List.{length-map}
 use Rattle.hg_base.specs.Graph.{WeightedGraph}
-use Rattle.hg_base.specs.Edges.{EdgeList, IsIn}
-use Rattle.hg_base.specs.Rising.{IsRising}
+use Rattle.edge_laws.specs.Edges.{EdgeList}
+use Rattle.hg_base.specs.Lists.{IsIn}
+use Rattle.edge_laws.specs.Rising.{IsRising}
 use Rattle.edge_order.specs.Order.{EdgeOrder, order_of}
 use Rattle.tile_plan.specs.Grids.{lot_in, tiles_in}
 use Rattle.tile_plan.specs.Placing.{AreKeys}

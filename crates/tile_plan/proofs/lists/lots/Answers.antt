@@ -1,8 +1,8 @@
 use Rattle.std.proofs.Common.{◌≡◌, ℕ, ◌+◌, ◌-◌, ◌<◌, ◌∙◌, arith, sym, ap, List, map, take, drop, length, get_or}
 use Rattle.std.specs.Prelude.{◌==◌, slice_index, filter}
 use Rattle.std.proofs.lemmas.List.{take_all}
-use Rattle.hg_base.specs.Edges.{ListedEdge, EdgeList, renamed_edge}
-use Rattle.hg_base.specs.Placed.{placed}
+use Rattle.edge_laws.specs.Edges.{ListedEdge, EdgeList, renamed_edge}
+use Rattle.edge_laws.specs.Placed.{placed}
 use Rattle.hg_base.specs.declared.graph.PlacedEdge.{PlacedEdge}
 use Rattle.tile_plan.specs.Placing.{place_by, count_of}
 use Rattle.tile_plan.specs.Dealing.{no_edge, laid}

@@ -1,5 +1,5 @@
 use Rattle.std.proofs.Common.{◌≡◌, ◌<◌, ◌≤◌, ℕ, subst, arith, length, get_or, ap}
-use Rattle.hg_base.specs.Tree.{parent, altitude}
+use Rattle.tree_laws.specs.Tree.{parent, altitude}
 use Rattle.partition_tree.proofs.ForestClimbs.{forest-climbs}
 use Rattle.watershed_cut.specs.Passes.{IsPlateau}
 use Rattle.watershed_cut.proofs.KeyPasses.{over_same, over_more}

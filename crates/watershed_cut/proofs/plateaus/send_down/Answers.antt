@@ -1,5 +1,5 @@
 use Rattle.std.proofs.Common.{◌≡◌, ◌+◌, ◌-◌, ◌<◌, ℕ, sym, subst, arith, length, get_or, set, ◌∙◌, ap}
-use Rattle.hg_base.specs.Tree.{altitude}
+use Rattle.tree_laws.specs.Tree.{altitude}
 use Rattle.partition_tree.proofs.ForestClimbs.{forest-climbs}
 use Rattle.watershed_cut.proofs.PlateauPasses.{ArePlateausFrom, plateaus_first, plateaus_self, plateaus_parent, plateaus_all}
 use Rattle.watershed_cut.proofs.plateaus.send_down.Goals as goal

@@ -1,8 +1,7 @@
 use Rattle.std.proofs.Common.{sym, arith}
 use Rattle.graph_reader.proofs.Texts.{meaning-word, meaning-word-other, meaning-number, meaning-number-other, meaning-number-full, meaning-Other}
 use Rattle.graph_reader.proofs.lexer.Text.with.Goals as goal
-use Rattle.graph_reader.proofs.lexer.Text.with.Goals.{else-length-lt6-via-then-length-lt6+else-b-length, else-length-lt6-via-else-length-lt6}
-use Rattle.graph_reader.proofs.lexer.Text.with.Goals.{else-digits-lt10-via-then-digits-lt10+else-is_ascii_digit, else-digits-lt10-via-else-digits-lt10}
+use Rattle.graph_reader.proofs.lexer.Text.with.Goals.{else-length-lt6-via-then-length-lt6+else-b-length, else-length-lt6-via-else-length-lt6, else-digits-lt10-via-then-digits-lt10+else-is_ascii_digit, else-digits-lt10-via-else-digits-lt10}
 
 pub returns-then-b-length-clause-meaning : goal.returns-then-b-length-clause-meaning
 returns-then-b-length-clause-meaning c =

@@ -1,6 +1,6 @@
 use Rattle.std.proofs.Common.{sym, subst, arith}
 use Rattle.std.proofs.lemmas.List.{get_or_read}
-use Rattle.hg_base.specs.Tree.{IsAbove}
+use Rattle.tree_laws.specs.Tree.{IsAbove}
 use Rattle.partition_tree.proofs.climbs.Climbs.jump.Goals as goal
 
 pub returns-clause-above : goal.returns-clause-above

@@ -1,5 +1,5 @@
 use Rattle.std.proofs.Common.{ℕ, ◌+◌, ◌-◌, ◌<◌}
-use Rattle.hg_base.specs.Tree.{IsAbove}
+use Rattle.tree_laws.specs.Tree.{IsAbove}
 use Rattle.partition_tree.specs.Forest.{nodes}
 use Rattle.partition_tree.specs.Paths.{IsCommon}
 use Rattle.partition_tree.proofs.climbs.Climbs.lca.Given as goal

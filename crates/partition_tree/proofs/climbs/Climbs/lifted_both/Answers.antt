@@ -1,5 +1,5 @@
 use Rattle.std.proofs.Common.{◌<◌, arith}
-use Rattle.hg_base.specs.Tree.{parent}
+use Rattle.tree_laws.specs.Tree.{parent}
 use Rattle.partition_tree.specs.Climbs.{depth, GoesOn}
 use Rattle.partition_tree.proofs.ClimbLemmas.{deep-up, both-jump, both-parent, both-roots}
 use Rattle.partition_tree.proofs.climbs.Climbs.lifted_both.Goals as goal

@@ -1,5 +1,5 @@
 use Rattle.std.proofs.Common.{ℕ, ◌<◌, ◌≤◌}
-use Rattle.hg_base.specs.Tree.{parent, altitude}
+use Rattle.tree_laws.specs.Tree.{parent, altitude}
 use Rattle.partition_tree.proofs.tree.Tree.altitudes_rise.Given as goal
 
 -- no altitude of a node so far exceeds its parent's

@@ -1,5 +1,5 @@
 use Rattle.std.proofs.Common.{◌≡◌, ◌≤◌}
-use Rattle.hg_base.specs.Edges.{count_below}
+use Rattle.hg_base.specs.Counting.{count_below}
 use Rattle.partition_tree.specs.Children.{is_child}
 use Rattle.partition_tree.proofs.tree.Tree.child.Given as goal
 

@@ -1,5 +1,5 @@
 use Rattle.std.proofs.Common.{◌≡◌, subst, arith}
-use Rattle.hg_base.specs.Tree.{IsAbove}
+use Rattle.tree_laws.specs.Tree.{IsAbove}
 use Rattle.partition_tree.specs.Paths.{IsCommon}
 use Rattle.partition_tree.proofs.PathLemmas.{above-on}
 use Rattle.partition_tree.proofs.ClimbLemmas.{goes-further, met-lowest}

@@ -1,7 +1,7 @@
 use Rattle.std.proofs.Common.{◌∙◌, sym, arith, eq-eqb}
 use Rattle.std.specs.Prelude.{◌==◌}
 use Rattle.std.proofs.lemmas.Bool.{ne_eqb}
-use Rattle.hg_base.specs.Tree.{parent}
+use Rattle.tree_laws.specs.Tree.{parent}
 use Rattle.partition_tree.proofs.NodeLemmas.{count_fits, count_more_yes, count_more_no}
 use Rattle.partition_tree.proofs.tree.Tree.roots.Goals as goal
 use Rattle.partition_tree.proofs.tree.Tree.roots.Goals.{then-parent-i, else-parent-i}

@@ -1,7 +1,7 @@
 use Rattle.std.proofs.Common.{◌≡◌}
 use Rattle.std.specs.Prelude.{count_by, ◌==◌}
 use Rattle.std.specs.List.{range_with_len}
-use Rattle.hg_base.specs.Tree.{parent}
+use Rattle.tree_laws.specs.Tree.{parent}
 use Rattle.partition_tree.proofs.tree.Tree.roots.Given as goal
 
 -- the roots among the nodes so far

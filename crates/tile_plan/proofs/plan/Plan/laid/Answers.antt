@@ -1,5 +1,6 @@
 use Rattle.std.proofs.Common.{◌≡◌, ℕ, ◌∙◌, sym, ap, subst, refl, length}
-use Rattle.hg_base.specs.Edges.{ListedEdge, IsIn}
+use Rattle.edge_laws.specs.Edges.{ListedEdge}
+use Rattle.hg_base.specs.Lists.{IsIn}
 use Rattle.edge_order.specs.Order.{EdgeOrder}
 use Rattle.tile_plan.specs.Grids.{tiles_in, rows_of}
 use Rattle.tile_plan.specs.Frames.{vertices_in}

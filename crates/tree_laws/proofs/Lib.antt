@@ -1,0 +1,13 @@
+pub mod Nodes
+pub mod Paths
+pub mod FrontTree
+pub mod FrontOnce
+pub mod Meeting
+pub mod TreeNodes
+pub mod Leaves
+pub mod Climbs
+pub mod Tops
+pub mod Levels
+pub mod Kept
+pub mod Zones
+pub mod ZoneLevels

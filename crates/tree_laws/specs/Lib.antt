@@ -1,0 +1,4 @@
+pub mod Tree
+pub mod Levels
+pub mod Zones
+pub mod Worked

@@ -3,12 +3,13 @@ use Rattle.std.proofs.Common.{◌≡◌, ◌≢◌, ℕ, suc, ◌+◌, Bool, tru
 use Rattle.std.specs.Prelude.{Some, None}
 use Rattle.std.specs.List.{before_first}
 use Rattle.std.proofs.lemmas.Bool.{ne_eqb}
-use Rattle.graph_reader.specs.Tokens.{is_space, is_line_end, blanked}
-use Rattle.graph_reader.proofs.Steps.{blanked-hash, blanked-other, blanked-end, blanked-comment}
-use Rattle.pgm_reader.specs.declared.lexer.Text.{Text}
-use Rattle.pgm_reader.specs.declared.lexer.Lexer.TheVariants.{Between, Comment, Inside}
-use Rattle.pgm_reader.specs.Pgm.{ends_token, gap, cut, token_at, number_of}
-use Rattle.pgm_reader.specs.Lexing.{number_with, next_token}
+use Rattle.input_tokens.specs.Tokens.{is_space, is_line_end, blanked, meaning}
+use Rattle.input_tokens.proofs.ByteByByte.{blanked-hash, blanked-other, blanked-end, blanked-comment}
+use Rattle.input_tokens.specs.declared.text.Text.{Text}
+use Rattle.input_tokens.specs.declared.lexer.Lexer.TheVariants.{Between, Comment, Inside}
+use Rattle.pgm_reader.specs.Pgm.{ends_token, gap, cut, cut_here}
+use Rattle.input_tokens.specs.Lexing.{meaning_with}
+use Rattle.pgm_reader.specs.Lexing.{next_token}
 
 one-add : (n : ℕ) → 1 + n ≡ suc n
 one-add n = omega arith
@@ -60,19 +61,19 @@ pub text-more : (hash : Bool) (b : ℕ) (bs : List ℕ) → ends_token hash b �
 text-more hash b bs e = rw (e, one-add) refl
 
 pub between-begin : (text : Text) (hash : Bool) (place b : ℕ) (rest : List ℕ) → b ≢ 35 → is_space b ≡ false
-    → ((more : List ℕ) → number_with text more ≡ number_of (b ∷ more))
+    → ((more : List ℕ) → meaning_with text more ≡ meaning (b ∷ more))
     → next_token hash Between place (b ∷ rest) ≡ next_token hash (Inside place text) (place + 1) rest
-unfolding next_token cut token_at
+unfolding next_token cut cut_here
 between-begin text hash place b rest e s m =
     rw (gap-none b rest e s, add-zero, text-more hash b rest (ends-not hash b s e), m (before_first (ends_token hash) rest), shift place (length (before_first (ends_token hash) rest))) refl
 
 pub inside-ends : (text : Text) (hash : Bool) (from place b : ℕ) (rest : List ℕ) → ends_token hash b ≡ true
-    → next_token hash (Inside from text) place (b ∷ rest) ≡ Some (record { from = from; number = number_with text []; to = place; rest = b ∷ rest })
+    → next_token hash (Inside from text) place (b ∷ rest) ≡ Some (record { from = from; token = meaning_with text []; to = place; rest = b ∷ rest })
 unfolding next_token
 inside-ends text hash from place b rest e = rw (text-ends hash b rest e, add-zero) refl
 
 pub inside-more : (text more : Text) (hash : Bool) (from place b : ℕ) (rest : List ℕ) → ends_token hash b ≡ false
-    → ((bs : List ℕ) → number_with more bs ≡ number_with text (b ∷ bs))
+    → ((bs : List ℕ) → meaning_with more bs ≡ meaning_with text (b ∷ bs))
     → next_token hash (Inside from text) place (b ∷ rest) ≡ next_token hash (Inside from more) (place + 1) rest
 unfolding next_token
 inside-more text more hash from place b rest e m =
@@ -95,13 +96,13 @@ behind-space hash place b rest e s =
 
 -- where no byte follows
 pub none-between : (hash : Bool) (place : ℕ) → next_token hash Between place [] ≡ None
-unfolding next_token cut token_at gap blanked
+unfolding next_token cut cut_here gap blanked
 none-between hash place = refl
 
 pub none-comment : (hash : Bool) (place : ℕ) → next_token hash Comment place [] ≡ None
-unfolding next_token cut token_at gap blanked
+unfolding next_token cut cut_here gap blanked
 none-comment hash place = refl
 
-pub last-inside : (text : Text) (hash : Bool) (from place : ℕ) → next_token hash (Inside from text) place [] ≡ Some (record { from = from; number = number_with text []; to = place; rest = [] })
+pub last-inside : (text : Text) (hash : Bool) (from place : ℕ) → next_token hash (Inside from text) place [] ≡ Some (record { from = from; token = meaning_with text []; to = place; rest = [] })
 unfolding next_token
 last-inside text hash from place = rw add-zero refl

@@ -5,15 +5,15 @@ use Rattle.hg_base.specs.declared.fault.FaultKind.TheVariants.{Truncated}
 use Rattle.hg_base.specs.declared.fault.InputFault.{InputFault}
 use Rattle.hg_base.specs.declared.fault.ReadError.{ReadError}
 use Rattle.hg_base.specs.declared.fault.ReadError.TheVariants as errors
-use Rattle.graph_reader.specs.Tokens.{blanked}
-use Rattle.graph_reader.specs.EdgeList.{fault}
-use Rattle.pgm_reader.specs.declared.lexer.Found.{Found}
-use Rattle.pgm_reader.specs.declared.lexer.Lexer.{Lexer}
+use Rattle.input_tokens.specs.Tokens.{blanked}
+use Rattle.input_tokens.specs.Rules.{fault}
+use Rattle.input_tokens.specs.declared.token.Found.{Found}
+use Rattle.input_tokens.specs.declared.lexer.Lexer.{Lexer}
 use Rattle.pgm_reader.specs.declared.stage.Field.{Field}
 use Rattle.pgm_reader.specs.declared.stage.Field.TheVariants as fields
 use Rattle.pgm_reader.specs.declared.stage.Stage.TheVariants as stages
 use Rattle.pgm_reader.specs.Raster.{Raster}
-use Rattle.pgm_reader.specs.Pgm.{cut, token_at, gap, width, height, greatest, samples, pixels, from_width, from_height, from_greatest, picture}
+use Rattle.pgm_reader.specs.Pgm.{cut, cut_here, gap, width, height, greatest, samples, pixels, from_width, from_height, from_greatest, picture}
 use Rattle.pgm_reader.specs.Lexing.{next_token, cut_token}
 use Rattle.pgm_reader.specs.Progress.{Progress, HasRead, Answers, IsFaultOf, reading, reading_at, from_field, from_samples, hash_ends, is_out_of_memory}
 use Rattle.pgm_reader.proofs.Reading.{answered}
@@ -57,9 +57,9 @@ last-token d field lexer found e some = reads-at d _ d.taken [] e ∙ ap (from_f
 
 -- what the token of a field is read as, where it is the last
 abbrev pub read_as : Field → Progress → Found → Result ℕ InputFault
-read_as fields.Width d found = width found.at found.number
-read_as fields.Height d found = height d.width found.at found.number
-read_as fields.Greatest d found = greatest found.at found.number
+read_as fields.Width d found = width found.at found.token
+read_as fields.Height d found = height d.width found.at found.token
+read_as fields.Greatest d found = greatest found.at found.token
 
 from-fault : (field : Field) (d : Progress) (found : Found) (f : InputFault) → read_as field d found ≡ Err f
     → from_field field d d.taken (Some (cut_token found d.taken [])) ≡ Err f
@@ -70,7 +70,7 @@ from-fault fields.Greatest d found f e = rw e refl
 
 from-ok : (field : Field) (d : Progress) (found : Found) (n : ℕ) → read_as field d found ≡ Ok n
     → from_field field d d.taken (Some (cut_token found d.taken [])) ≡ fault Truncated d.taken 0
-unfolding from_field from_width from_height from_greatest pixels cut token_at gap blanked
+unfolding from_field from_width from_height from_greatest pixels cut cut_here gap blanked
 from-ok fields.Width d found n e = rw e refl
 from-ok fields.Height d found n e = rw e refl
 from-ok fields.Greatest d found n e = rw e refl
@@ -88,7 +88,7 @@ last-answer d field lexer found r answer e some read m =
 
 -- the form itself is cut
 pub form-last : (d : Progress) → d.stage ≡ stages.Form → reading d d.taken [] ≡ fault Truncated d.taken 0
-unfolding reading_at cut token_at gap blanked from_width
+unfolding reading_at cut cut_here gap blanked from_width
 form-last d e = reads-at d _ d.taken [] e ∙ rw (drop-none (2 - d.taken)) refl
 
 some-size : (small : Bool) → nat_lt 0 (if small then 1 else 2) ≡ true

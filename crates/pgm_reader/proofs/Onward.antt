@@ -4,9 +4,9 @@ use Rattle.std.specs.Prelude.{Some, None}
 use Rattle.std.specs.List.{before_first}
 use Rattle.std.proofs.lemmas.Bool.{cases_Bool}
 use Rattle.std.proofs.lemmas.List.{drop-append-le, length-drop}
-use Rattle.graph_reader.specs.Tokens.{is_space, blanked}
-use Rattle.graph_reader.proofs.Cuts.{blanked-first}
-use Rattle.pgm_reader.specs.Pgm.{CutToken, ends_token, gap, cut, token_at, number_of}
+use Rattle.input_tokens.specs.Tokens.{is_space, blanked, meaning}
+use Rattle.input_tokens.proofs.CutInputs.{blanked-first}
+use Rattle.pgm_reader.specs.Pgm.{CutToken, ends_token, gap, cut, cut_here}
 use Rattle.pgm_reader.proofs.Cuts.{gap-more, text-ends, text-more}
 
 -- the bytes of the token that begins where these bytes do
@@ -53,28 +53,28 @@ gap-same within (b ∷ ys) rest h =
 
 -- a token with other bytes behind it
 abbrev pub with_rest : CutToken → List ℕ → CutToken
-with_rest t rest = record { from = t.from; number = t.number; to = t.to; rest = rest }
+with_rest t rest = record { from = t.from; token = t.token; to = t.to; rest = rest }
 
 -- the token that begins with the first of these bytes
 abbrev begun : Bool → ℕ → ℕ → List ℕ → CutToken
 begun hash place b bs =
     let w = text hash (b ∷ bs) in
-    record { from = place; number = number_of w; to = place + length w; rest = drop (length w) (b ∷ bs) }
+    record { from = place; token = meaning w; to = place + length w; rest = drop (length w) (b ∷ bs) }
 
 begun-onward : (hash : Bool) (place b : ℕ) (bs rest : List ℕ) → length (text hash (b ∷ (bs ++ rest))) ≤ suc (length bs)
     → begun hash place b (bs ++ rest) ≡ with_rest (begun hash place b bs) (drop (length (text hash (b ∷ bs))) (b ∷ bs) ++ rest)
 begun-onward hash place b bs rest h =
     let same = text-same hash (b ∷ bs) rest h in
     let over = drop-append-le (length (text hash (b ∷ bs))) (b ∷ bs) rest (text-le hash (b ∷ bs)) in
-    ap (λ (w : List ℕ). let t : CutToken = record { from = place; number = number_of w; to = place + length w; rest = drop (length w) (b ∷ (bs ++ rest)) } in t) same
+    ap (λ (w : List ℕ). let t : CutToken = record { from = place; token = meaning w; to = place + length w; rest = drop (length w) (b ∷ (bs ++ rest)) } in t) same
     ∙ ap (λ (r : List ℕ). with_rest (begun hash place b bs) r) over
 
 cut-begun : (hash : Bool) (place n b : ℕ) (ys bs : List ℕ) → gap false ys ≡ n → drop n ys ≡ b ∷ bs → cut hash false place ys ≡ Some (begun hash (place + n) b bs)
-unfolding cut token_at
+unfolding cut cut_here
 cut-begun hash place n b ys bs g d = rw (g, d) refl
 
 cut-none : (hash : Bool) (place n : ℕ) (ys : List ℕ) → gap false ys ≡ n → drop n ys ≡ [] → cut hash false place ys ≡ None
-unfolding cut token_at
+unfolding cut cut_here
 cut-none hash place n ys g d = rw (g, d) refl
 
 -- a token that is cut from these bytes; the one that begins there, where more stands behind them, is the same if it ends within them

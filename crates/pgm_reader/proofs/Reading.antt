@@ -4,8 +4,8 @@ use Rattle.std.specs.Prelude.{Result, Err, None, Some}
 use Rattle.hg_base.specs.declared.fault.InputFault.{InputFault}
 use Rattle.hg_base.specs.declared.fault.ReadError.{ReadError}
 use Rattle.hg_base.specs.declared.fault.ReadError.TheVariants.{OutOfMemory}
-use Rattle.pgm_reader.specs.declared.lexer.Lexer.{Lexer}
-use Rattle.pgm_reader.specs.declared.lexer.Lexer.TheVariants.{Between, Comment, Inside}
+use Rattle.input_tokens.specs.declared.lexer.Lexer.{Lexer}
+use Rattle.input_tokens.specs.declared.lexer.Lexer.TheVariants.{Between, Comment, Inside}
 use Rattle.pgm_reader.specs.declared.stage.Field.{Field}
 use Rattle.pgm_reader.specs.declared.stage.Field.TheVariants as fields
 use Rattle.pgm_reader.specs.declared.stage.Stage.{Stage}

@@ -3,7 +3,7 @@ use Rattle.std.proofs.Common.{◌≡◌, ℕ, suc, ◌+◌, ◌-◌, ◌*◌, �
 use Rattle.std.specs.Prelude.{nat_lt, if◌then◌else◌, Result, Ok, Err}
 use Rattle.hg_base.specs.declared.fault.FaultKind.TheVariants.{SampleAboveMax, Trailing}
 use Rattle.hg_base.specs.declared.fault.InputFault.{InputFault}
-use Rattle.graph_reader.specs.EdgeList.{◌>>=◌, fault}
+use Rattle.input_tokens.specs.Rules.{◌>>=◌, fault}
 use Rattle.pgm_reader.specs.declared.stage.Stage.TheVariants as stages
 use Rattle.pgm_reader.specs.Raster.{Raster}
 use Rattle.pgm_reader.specs.Pgm.{samples}

@@ -3,15 +3,15 @@ use Rattle.std.proofs.Common.{◌≡◌, ℕ, suc, ◌+◌, ◌-◌, ◌*◌, �
 use Rattle.std.specs.Prelude.{Ok, Err, Some, nat_lt}
 use Rattle.hg_base.specs.declared.fault.FaultKind.TheVariants.{Trailing}
 use Rattle.hg_base.specs.declared.fault.InputFault.{InputFault}
-use Rattle.graph_reader.specs.Tokens.{blanked}
-use Rattle.pgm_reader.specs.declared.lexer.Found.{Found}
-use Rattle.pgm_reader.specs.declared.lexer.Lexer.{Lexer}
-use Rattle.pgm_reader.specs.declared.lexer.Lexer.TheVariants.{Between}
+use Rattle.input_tokens.specs.Tokens.{blanked}
+use Rattle.input_tokens.specs.declared.token.Found.{Found}
+use Rattle.input_tokens.specs.declared.lexer.Lexer.{Lexer}
+use Rattle.input_tokens.specs.declared.lexer.Lexer.TheVariants.{Between}
 use Rattle.pgm_reader.specs.declared.stage.Field.{Field}
 use Rattle.pgm_reader.specs.declared.stage.Field.TheVariants as fields
 use Rattle.pgm_reader.specs.declared.stage.Stage.{Stage}
 use Rattle.pgm_reader.specs.declared.stage.Stage.TheVariants as stages
-use Rattle.pgm_reader.specs.Pgm.{cut, token_at, gap, width, height, greatest, pixels, from_width, from_height, from_greatest, width_settles, height_settles, greatest_settles}
+use Rattle.pgm_reader.specs.Pgm.{cut, cut_here, gap, width, height, greatest, pixels, from_width, from_height, from_greatest, width_settles, height_settles, greatest_settles}
 use Rattle.pgm_reader.specs.Lexing.{next_token, cut_token}
 use Rattle.pgm_reader.specs.Progress.{Progress, Reads, TakesToken, TakesSample, reading, settling, reading_at, settling_at, from_field, from_samples, field_settles, hash_ends, is_out_at, is_out_of_memory, is_sized}
 use Rattle.pgm_reader.proofs.Reading.{unsettled}
@@ -36,7 +36,7 @@ drop-none zero = refl
 drop-none (suc n) = refl
 
 pub form-not-sized : (d : Progress) → d.stage ≡ stages.Form → is_sized d ≡ false
-unfolding settling_at cut token_at gap blanked width_settles
+unfolding settling_at cut cut_here gap blanked width_settles
 form-not-sized d e = settles-at d _ [] e ∙ rw (drop-none (2 - d.taken)) refl
 
 -- once samples are read, or the reading has ended
@@ -168,15 +168,15 @@ some : (n : ℕ) → nat_lt 0 (suc n) ≡ true
 some n = grind arith
 
 -- a number with a fault ends the reading
-pub width-fault : (d : Progress) (found : Found) (b : ℕ) (f : InputFault) → width found.at found.number ≡ Err f → TakesToken fields.Width d (onward d (stages.Faulty f)) found b
+pub width-fault : (d : Progress) (found : Found) (b : ℕ) (f : InputFault) → width found.at found.token ≡ Err f → TakesToken fields.Width d (onward d (stages.Faulty f)) found b
 unfolding reading_at settling_at from_field field_settles from_width width_settles
 width-fault d found b f e = record { taken = refl; reading = λ memory end rest. rw e refl; settling = λ rest. rw (e, some (length rest)) refl }
 
-pub height-fault : (d : Progress) (found : Found) (b : ℕ) (f : InputFault) → height d.width found.at found.number ≡ Err f → TakesToken fields.Height d (onward d (stages.Faulty f)) found b
+pub height-fault : (d : Progress) (found : Found) (b : ℕ) (f : InputFault) → height d.width found.at found.token ≡ Err f → TakesToken fields.Height d (onward d (stages.Faulty f)) found b
 unfolding reading_at settling_at from_field field_settles from_height height_settles
 height-fault d found b f e = record { taken = refl; reading = λ memory end rest. rw e refl; settling = λ rest. rw (e, some (length rest)) refl }
 
-pub greatest-fault : (d : Progress) (found : Found) (b : ℕ) (f : InputFault) → greatest found.at found.number ≡ Err f → TakesToken fields.Greatest d (onward d (stages.Faulty f)) found b
+pub greatest-fault : (d : Progress) (found : Found) (b : ℕ) (f : InputFault) → greatest found.at found.token ≡ Err f → TakesToken fields.Greatest d (onward d (stages.Faulty f)) found b
 unfolding reading_at settling_at from_field field_settles from_greatest greatest_settles
 greatest-fault d found b f e = record { taken = refl; reading = λ memory end rest. rw e refl; settling = λ rest. rw (some (length rest)) refl }
 
@@ -184,7 +184,7 @@ greatest-fault d found b f e = record { taken = refl; reading = λ memory end re
 abbrev pub StandsBehind : ℕ → Lexer → Type 0
 StandsBehind b next = (place : ℕ) (rest : List ℕ) (hash : Bool) → cut hash false place (b ∷ rest) ≡ next_token hash next (place + 1) rest
 
-pub takes-width : (d : Progress) (found : Found) (b w : ℕ) (next : Lexer) → width found.at found.number ≡ Ok w → StandsBehind b next
+pub takes-width : (d : Progress) (found : Found) (b w : ℕ) (next : Lexer) → width found.at found.token ≡ Ok w → StandsBehind b next
     → TakesToken fields.Width d (record { taken = d.taken + 1; stage = stages.Header fields.Height next; width = w; height = d.height; max = d.max; samples = d.samples }) found b
 unfolding reading_at settling_at from_field field_settles from_width width_settles
 takes-width d found b w next e behind = record {
@@ -193,7 +193,7 @@ takes-width d found b w next e behind = record {
   settling = λ rest. rw (e, some (length rest), behind d.taken rest true) refl;
 }
 
-pub takes-height : (d : Progress) (found : Found) (b h : ℕ) (next : Lexer) → height d.width found.at found.number ≡ Ok h → StandsBehind b next
+pub takes-height : (d : Progress) (found : Found) (b h : ℕ) (next : Lexer) → height d.width found.at found.token ≡ Ok h → StandsBehind b next
     → TakesToken fields.Height d (record { taken = d.taken + 1; stage = stages.Header fields.Greatest next; width = d.width; height = h; max = d.max; samples = d.samples }) found b
 unfolding reading_at settling_at from_field field_settles from_height height_settles
 takes-height d found b h next e behind = record {
@@ -206,7 +206,7 @@ all-left : (n : ℕ) → n - 0 ≡ n
 all-left n = omega arith
 
 -- room was taken for all samples
-pub takes-greatest : (d : Progress) (found : Found) (b m : ℕ) → greatest found.at found.number ≡ Ok m
+pub takes-greatest : (d : Progress) (found : Found) (b m : ℕ) → greatest found.at found.token ≡ Ok m
     → TakesToken fields.Greatest d (record { taken = d.taken + 1; stage = stages.Samples; width = d.width; height = d.height; max = m; samples = [] }) found b
 unfolding reading_at settling_at from_field field_settles from_greatest greatest_settles pixels from_samples
 takes-greatest d found b m e = record {

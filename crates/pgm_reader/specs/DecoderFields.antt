@@ -4,7 +4,7 @@ use Rattle.pgm_reader.specs.declared.stage.Field.TheVariants as fields
 use Rattle.pgm_reader.specs.declared.stage.Stage.{Stage}
 use Rattle.pgm_reader.specs.declared.stage.Stage.TheVariants as stages
 use Rattle.pgm_reader.specs.declared.decoder.PictureDecoder.TheInside.{Inside}
-use Rattle.pgm_reader.specs.Lexing.{IsLexing}
+use Rattle.input_tokens.specs.Lexing.{IsLexing}
 use Rattle.pgm_reader.specs.Progress.{Progress}
 
 abbrev pub progress_of : Inside → Progress

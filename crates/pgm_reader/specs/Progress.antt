@@ -4,8 +4,8 @@ use Rattle.hg_base.specs.declared.fault.InputFault.{InputFault}
 use Rattle.hg_base.specs.declared.fault.ReadError.{ReadError}
 use Rattle.hg_base.specs.declared.fault.ReadError.TheVariants as errors
 use Rattle.hg_base.specs.declared.fault.FaultKind.TheVariants.{Truncated, SampleAboveMax}
-use Rattle.graph_reader.specs.EdgeList.{◌>>=◌, fault}
-use Rattle.pgm_reader.specs.declared.lexer.Found.{Found}
+use Rattle.input_tokens.specs.Rules.{◌>>=◌, fault}
+use Rattle.input_tokens.specs.declared.token.Found.{Found}
 use Rattle.pgm_reader.specs.declared.stage.Field.{Field}
 use Rattle.pgm_reader.specs.declared.stage.Field.TheVariants as fields
 use Rattle.pgm_reader.specs.declared.stage.Stage.{Stage}

@@ -1,5 +1,5 @@
 ghost use Rattle.std.specs.Prelude.{◌≡◌, ◌+◌, ◌∷◌, [], List, ℕ, Bool, true, false, ◌<◌, ◌^◌, IsTrue, IfSome};
-ghost use Rattle.graph_reader.specs.Tokens.{is_space, is_line_end};
+ghost use Rattle.input_tokens.specs.Tokens.{is_space, is_line_end};
 ghost use Rattle.pgm_reader.specs.Pgm.{number_of, ends_token, cut};
 ghost use Rattle.pgm_reader.specs.Lexing.{IsBegun, IsLexing, number_with, next_token, Steps, EndsWith};
 

@@ -1,12 +1,13 @@
-#![tactic(auto, unfolding(crate::specs::Pgm::number, crate::specs::Pgm::width, crate::specs::Pgm::height, crate::specs::Pgm::greatest))]
+#![tactic(auto, unfolding(crate::specs::Pgm::number_read, crate::specs::Pgm::width, crate::specs::Pgm::height, crate::specs::Pgm::greatest))]
 
 ghost use Rattle.std.specs.Prelude.{◌≡◌, ◌*◌, ◌^◌, ◌<◌, ◌≤◌, IfOk, IfSome};
-ghost use Rattle.pgm_reader.specs.Pgm.{number, width, height, greatest};
+ghost use Rattle.input_tokens.specs.Rules.{number_read};
+ghost use Rattle.pgm_reader.specs.Pgm.{width, height, greatest};
 
 use hg_base::{FaultKind, InputFault};
 
-fn number(at: u64, token: Option<u64>) -> Result<u64, InputFault>
-    ensures { result ≡ number at token }
+fn number_read(at: u64, token: Option<u64>) -> Result<u64, InputFault>
+    ensures { result ≡ number_read at token }
 {
     match token {
         Some(n) => Ok(n),
@@ -23,7 +24,7 @@ pub fn width(at: u64, token: Option<u64>) -> Result<u32, InputFault>
     ensures value { result ≡ width at token }
     ensures range { IfOk result (λ w. (1 ≤ w) × (w ≤ 1048576)) }
 {
-    let w = number(at, token)?;
+    let w = number_read(at, token)?;
     if w == 0 {
         return Err(InputFault {
             kind: FaultKind::NoVertex,
@@ -49,7 +50,7 @@ pub fn height(w: u32, at: u64, token: Option<u64>) -> Result<u32, InputFault>
     ensures value { result ≡ height w at token }
     ensures range { IfOk result (λ h. (1 ≤ h) × (w * h ≤ 1048576)) }
 {
-    let h = number(at, token)?;
+    let h = number_read(at, token)?;
     if h == 0 {
         return Err(InputFault {
             kind: FaultKind::NoVertex,
@@ -73,7 +74,7 @@ pub fn greatest(at: u64, token: Option<u64>) -> Result<u16, InputFault>
     ensures value { result ≡ greatest at token }
     ensures range { IfOk result (λ max. 1 ≤ max) }
 {
-    let max = number(at, token)?;
+    let max = number_read(at, token)?;
     if max == 0 {
         return Err(InputFault {
             kind: FaultKind::BadNumber,

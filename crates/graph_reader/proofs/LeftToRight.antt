@@ -3,15 +3,14 @@ use Rattle.std.proofs.Common.{◌≡◌, ◌≢◌, ℕ, zero, suc, Bool, true, 
 use Rattle.std.specs.Prelude.{Result, Ok, Err, replicate, if◌then◌else◌, nat_lt, ◌==◌}
 use Rattle.hg_base.specs.Graph.{WeightedGraph}
 use Rattle.hg_base.specs.declared.graph.Edge.{Edge}
-use Rattle.hg_base.specs.declared.fault.FaultKind.{FaultKind}
-use Rattle.hg_base.specs.declared.fault.FaultKind.TheVariants.{UnknownForm, BadNumber, TooLarge, Truncated, Trailing, OutOfRange, Loop, NoVertex}
+use Rattle.hg_base.specs.declared.fault.FaultKind.TheVariants.{UnknownForm, BadNumber, Truncated, Trailing, OutOfRange, Loop, NoVertex}
 use Rattle.hg_base.specs.declared.fault.InputFault.{InputFault}
 use Rattle.input_tokens.specs.declared.token.Token.{Token}
 use Rattle.input_tokens.specs.declared.token.Token.TheVariants.{Graph, GraphWithAreas, Number, Other}
 use Rattle.input_tokens.specs.Tokens.{PlacedToken}
 use Rattle.input_tokens.specs.Rules.{◌>>=◌, within_limit, number_read, fault}
 use Rattle.input_tokens.proofs.PlacedFaults.{FaultsAt, at-ok, at-fault, at-then, at-either, at-most, IsRule, rule-number}
-use Rattle.graph_reader.specs.EdgeList.{next, need, first_word, vertices, edges, area, first_end_read, second_end_read, weight_read, edge, several, areas, whole, graph}
+use Rattle.graph_reader.specs.EdgeList.{need, first_word, vertices, edges, area, first_end_read, second_end_read, weight_read, edge, several, areas, whole, graph}
 
 rule-first_word : IsRule first_word
 unfolding first_word

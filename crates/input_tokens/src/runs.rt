@@ -95,4 +95,3 @@ pub(crate) fn read_between(place: u64, piece: &[u8]) -> (Lexer, usize)
         _ => (Lexer::Between, count_spaces(piece)),
     }
 }
-

@@ -14,4 +14,3 @@ pub fn is_line_end(b: u8) -> bool
 {
     matches!(b, b'\n' | b'\r')
 }
-

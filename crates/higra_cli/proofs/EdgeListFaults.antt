@@ -5,10 +5,11 @@ use Rattle.hg_base.specs.Graph.{WeightedGraph}
 use Rattle.hg_base.specs.declared.graph.Edge.{Edge}
 use Rattle.hg_base.specs.declared.fault.FaultKind.TheVariants.{UnknownForm, BadNumber, TooLarge, Truncated, OutOfRange, Loop, NoVertex, TooLong}
 use Rattle.hg_base.specs.declared.fault.InputFault.{InputFault}
-use Rattle.graph_reader.specs.declared.token.Token.{Token}
-use Rattle.graph_reader.specs.declared.token.Token.TheVariants.{Graph, GraphWithAreas, Number, Other}
-use Rattle.graph_reader.specs.Tokens.{PlacedToken, tokens}
-use Rattle.graph_reader.specs.EdgeList.{◌>>=◌, area, areas, at_most, edge, edge_list, edges, fault, first_end, first_word, graph, need, next, number, second_end, several, vertices, weight, whole}
+use Rattle.input_tokens.specs.declared.token.Token.{Token}
+use Rattle.input_tokens.specs.declared.token.Token.TheVariants.{Graph, GraphWithAreas, Number, Other}
+use Rattle.input_tokens.specs.Tokens.{PlacedToken, tokens}
+use Rattle.input_tokens.specs.Rules.{◌>>=◌, within_limit, fault, number_read}
+use Rattle.graph_reader.specs.EdgeList.{area, areas, edge, edge_list, edges, first_end_read, first_word, graph, need, next, second_end_read, several, vertices, weight_read, whole}
 
 -- what was read isn't an input that is too long
 abbrev pub IsShort : {A : Type 0} → Result A InputFault → Type 0
@@ -23,11 +24,11 @@ pub short-either : {A : Type 0} (b : Bool) (x y : Result A InputFault) → IsSho
 short-either true x y p q = p
 short-either false x y p q = q
 
-pub short-most : (limit at n : ℕ) → IsShort (at_most limit at n)
+pub short-most : (limit at n : ℕ) → IsShort (within_limit limit at n)
 short-most limit at n = short-either (nat_lt limit n) (fault TooLarge at n) (Ok n) (λ e. cc) tt
 
 -- a rule's faults are others
-abbrev IsRule : {A : Type 0} → (ℕ → Token → Result A InputFault) → Type 0
+abbrev pub IsRule : {A : Type 0} → (ℕ → Token → Result A InputFault) → Type 0
 IsRule rule = (at : ℕ) (token : Token) → IsShort (rule at token)
 
 rule-first_word : IsRule first_word
@@ -37,8 +38,8 @@ rule-first_word at GraphWithAreas = tt
 rule-first_word at (Number n) = λ e. cc
 rule-first_word at Other = λ e. cc
 
-rule-number : IsRule number
-unfolding number
+pub rule-number : IsRule number_read
+unfolding number_read
 rule-number at (Number n) = tt
 rule-number at Graph = λ e. cc
 rule-number at GraphWithAreas = λ e. cc
@@ -46,31 +47,31 @@ rule-number at Other = λ e. cc
 
 rule-vertices : IsRule vertices
 unfolding vertices
-rule-vertices at token = short-then (number at token) (λ n. if n == 0 then fault NoVertex at 0 else at_most 1048576 at n) (rule-number at token)
-    (λ n. short-either (n == 0) (fault NoVertex at 0) (at_most 1048576 at n) (λ e. cc) (short-most 1048576 at n))
+rule-vertices at token = short-then (number_read at token) (λ n. if n == 0 then fault NoVertex at 0 else within_limit 1048576 at n) (rule-number at token)
+    (λ n. short-either (n == 0) (fault NoVertex at 0) (within_limit 1048576 at n) (λ e. cc) (short-most 1048576 at n))
 
 rule-edges : IsRule edges
 unfolding edges
-rule-edges at token = short-then (number at token) (λ m. at_most 4194304 at m) (rule-number at token) (short-most 4194304 at)
+rule-edges at token = short-then (number_read at token) (λ m. within_limit 4194304 at m) (rule-number at token) (short-most 4194304 at)
 
 rule-area : IsRule area
 unfolding area
-rule-area at token = short-then (number at token) (λ a. if a == 0 then fault BadNumber at 0 else at_most 4096 at a) (rule-number at token)
-    (λ a. short-either (a == 0) (fault BadNumber at 0) (at_most 4096 at a) (λ e. cc) (short-most 4096 at a))
+rule-area at token = short-then (number_read at token) (λ a. if a == 0 then fault BadNumber at 0 else within_limit 4096 at a) (rule-number at token)
+    (λ a. short-either (a == 0) (fault BadNumber at 0) (within_limit 4096 at a) (λ e. cc) (short-most 4096 at a))
 
-rule-first_end : (n : ℕ) → IsRule (first_end n)
-unfolding first_end
-rule-first_end n at token = short-then (number at token) (λ u. if nat_lt u n then Ok u else fault OutOfRange at u) (rule-number at token)
+rule-first_end : (n : ℕ) → IsRule (first_end_read n)
+unfolding first_end_read
+rule-first_end n at token = short-then (number_read at token) (λ u. if nat_lt u n then Ok u else fault OutOfRange at u) (rule-number at token)
     (λ u. short-either (nat_lt u n) (Ok u) (fault OutOfRange at u) tt (λ e. cc))
 
-rule-second_end : (n u : ℕ) → IsRule (second_end n u)
-unfolding second_end
-rule-second_end n u at token = short-then (first_end n at token) (λ v. if v == u then fault Loop at v else Ok v) (rule-first_end n at token)
+rule-second_end : (n u : ℕ) → IsRule (second_end_read n u)
+unfolding second_end_read
+rule-second_end n u at token = short-then (first_end_read n at token) (λ v. if v == u then fault Loop at v else Ok v) (rule-first_end n at token)
     (λ v. short-either (v == u) (fault Loop at v) (Ok v) (λ e. cc) tt)
 
-rule-weight : IsRule weight
-unfolding weight
-rule-weight at token = short-then (number at token) (λ w. at_most 4294967295 at w) (rule-number at token) (short-most 4294967295 at)
+rule-weight : IsRule weight_read
+unfolding weight_read
+rule-weight at token = short-then (number_read at token) (λ w. within_limit 4294967295 at w) (rule-number at token) (short-most 4294967295 at)
 
 -- so are those of the next token
 short-next : {A : Type 0} (missing : Result (A × List PlacedToken) InputFault) (rule : ℕ → Token → Result A InputFault) (ts : List PlacedToken) → IsShort missing → IsRule rule → IsShort (next missing rule ts)
@@ -94,10 +95,10 @@ short-edge : (n end : ℕ) (ts : List PlacedToken) → IsShort (edge n end ts)
 unfolding edge
 short-edge n end ts =
     let last : ℕ → ℕ → ℕ × List PlacedToken → Result (Edge × List PlacedToken) InputFault = λ u v w. Ok (record { u = u; v = v; w = w.0 }, w.1) in
-    let second : ℕ → ℕ × List PlacedToken → Result (Edge × List PlacedToken) InputFault = λ u v. need end weight v.1 >>= last u v.0 in
-    short-then (need end (first_end n) ts) (λ u. need end (second_end n u.0) u.1 >>= second u.0) (short-need end (first_end n) ts (rule-first_end n))
-    (λ u. short-then (need end (second_end n u.0) u.1) (second u.0) (short-need end (second_end n u.0) u.1 (rule-second_end n u.0))
-    (λ v. short-then (need end weight v.1) (last u.0 v.0) (short-need end weight v.1 rule-weight) (λ w. tt)))
+    let second : ℕ → ℕ × List PlacedToken → Result (Edge × List PlacedToken) InputFault = λ u v. need end weight_read v.1 >>= last u v.0 in
+    short-then (need end (first_end_read n) ts) (λ u. need end (second_end_read n u.0) u.1 >>= second u.0) (short-need end (first_end_read n) ts (rule-first_end n))
+    (λ u. short-then (need end (second_end_read n u.0) u.1) (second u.0) (short-need end (second_end_read n u.0) u.1 (rule-second_end n u.0))
+    (λ v. short-then (need end weight_read v.1) (last u.0 v.0) (short-need end weight_read v.1 rule-weight) (λ w. tt)))
 
 short-areas : (b : Bool) (n end : ℕ) (ts : List PlacedToken) → IsShort (areas b n end ts)
 short-areas true n end ts = short-several n (need end area) ts (λ us. short-need end area us rule-area)

@@ -5,8 +5,10 @@ use Rattle.hg_base.specs.Graph.{WeightedGraph}
 use Rattle.hg_base.specs.Labels.{Labelling}
 use Rattle.hg_base.specs.declared.fault.FaultKind.TheVariants.{BadNumber, NoVertex, SampleAboveMax, TooLarge, TooLong, Truncated}
 use Rattle.hg_base.specs.declared.fault.InputFault.{InputFault}
-use Rattle.graph_reader.specs.EdgeList.{◌>>=◌, at_most, edge_list, fault}
-use Rattle.pgm_reader.specs.Pgm.{CutToken, big_endian, cut, from_greatest, from_height, from_width, greatest, height, is_picture, number, picture, pixels, sample_size, samples, width}
+use Rattle.input_tokens.specs.declared.token.Token.{Token}
+use Rattle.input_tokens.specs.Rules.{◌>>=◌, within_limit, fault, number_read}
+use Rattle.graph_reader.specs.EdgeList.{edge_list}
+use Rattle.pgm_reader.specs.Pgm.{CutToken, big_endian, cut, from_greatest, from_height, from_width, greatest, height, is_picture, picture, pixels, sample_size, samples, width}
 use Rattle.pgm_reader.specs.Raster.{Raster}
 use Rattle.higra_cli.specs.Inputs.{edges_as_input, graph_of, input_of, picture_as_input, read_as}
 use Rattle.higra_cli.specs.Reports.{drawing_fault, label_fault, labels_fault, labels_of, needs_picture, picture_fault, refusal, tile_fault, tiles_of, ◌before◌}
@@ -16,29 +18,24 @@ use Rattle.higra_cli.specs.declared.request.Form.{Form}
 use Rattle.higra_cli.specs.declared.request.Form.TheVariants as forms
 use Rattle.higra_cli.specs.declared.request.Report.{Report}
 use Rattle.higra_cli.specs.declared.request.Request.{Request}
-use Rattle.higra_cli.proofs.EdgeListFaults.{IsShort, short-edge_list, short-either, short-most, short-then}
+use Rattle.higra_cli.proofs.EdgeListFaults.{IsShort, rule-number, short-edge_list, short-either, short-most, short-then}
 
-short-number : (at : ℕ) (token : Option ℕ) → IsShort (number at token)
-unfolding number
-short-number at (Some n) = tt
-short-number at None = λ e. cc
-
-short-width : (at : ℕ) (token : Option ℕ) → IsShort (width at token)
+short-width : (at : ℕ) (token : Token) → IsShort (width at token)
 unfolding width
-short-width at token = short-then (number at token) (λ n. if n == 0 then fault NoVertex at 0 else at_most 1048576 at n) (short-number at token)
-    (λ n. short-either (n == 0) (fault NoVertex at 0) (at_most 1048576 at n) (λ e. cc) (short-most 1048576 at n))
+short-width at token = short-then (number_read at token) (λ n. if n == 0 then fault NoVertex at 0 else within_limit 1048576 at n) (rule-number at token)
+    (λ n. short-either (n == 0) (fault NoVertex at 0) (within_limit 1048576 at n) (λ e. cc) (short-most 1048576 at n))
 
-short-height : (w at : ℕ) (token : Option ℕ) → IsShort (height w at token)
+short-height : (w at : ℕ) (token : Token) → IsShort (height w at token)
 unfolding height
 short-height w at token =
     let many : ℕ → Result ℕ InputFault = λ n. if nat_lt 1048576 (w * n) then fault TooLarge at (w * n) else Ok n in
-    short-then (number at token) (λ n. if n == 0 then fault NoVertex at 0 else many n) (short-number at token)
+    short-then (number_read at token) (λ n. if n == 0 then fault NoVertex at 0 else many n) (rule-number at token)
     (λ n. short-either (n == 0) (fault NoVertex at 0) (many n) (λ e. cc) (short-either (nat_lt 1048576 (w * n)) (fault TooLarge at (w * n)) (Ok n) (λ e. cc) tt))
 
-short-greatest : (at : ℕ) (token : Option ℕ) → IsShort (greatest at token)
+short-greatest : (at : ℕ) (token : Token) → IsShort (greatest at token)
 unfolding greatest
-short-greatest at token = short-then (number at token) (λ n. if n == 0 then fault BadNumber at 0 else at_most 65535 at n) (short-number at token)
-    (λ n. short-either (n == 0) (fault BadNumber at 0) (at_most 65535 at n) (λ e. cc) (short-most 65535 at n))
+short-greatest at token = short-then (number_read at token) (λ n. if n == 0 then fault BadNumber at 0 else within_limit 65535 at n) (rule-number at token)
+    (λ n. short-either (n == 0) (fault BadNumber at 0) (within_limit 65535 at n) (λ e. cc) (short-most 65535 at n))
 
 short-samples : (end max k place : ℕ) (bytes : List ℕ) → IsShort (samples end max k place bytes)
 unfolding samples
@@ -63,18 +60,18 @@ short-pixels end w h max place (b ∷ bs) =
 short-from_greatest : (end w h : ℕ) (token : Option CutToken) → IsShort (from_greatest end w h token)
 unfolding from_greatest
 short-from_greatest end w h None = λ e. cc
-short-from_greatest end w h (Some t) = short-then (greatest t.from t.number) (λ max. pixels end w h max t.to t.rest) (short-greatest t.from t.number) (λ max. short-pixels end w h max t.to t.rest)
+short-from_greatest end w h (Some t) = short-then (greatest t.from t.token) (λ max. pixels end w h max t.to t.rest) (short-greatest t.from t.token) (λ max. short-pixels end w h max t.to t.rest)
 
 short-from_height : (end w : ℕ) (token : Option CutToken) → IsShort (from_height end w token)
 unfolding from_height
 short-from_height end w None = λ e. cc
-short-from_height end w (Some t) = short-then (height w t.from t.number) (λ h. from_greatest end w h (cut false false t.to t.rest)) (short-height w t.from t.number)
+short-from_height end w (Some t) = short-then (height w t.from t.token) (λ h. from_greatest end w h (cut false false t.to t.rest)) (short-height w t.from t.token)
     (λ h. short-from_greatest end w h (cut false false t.to t.rest))
 
 short-from_width : (end : ℕ) (token : Option CutToken) → IsShort (from_width end token)
 unfolding from_width
 short-from_width end None = λ e. cc
-short-from_width end (Some t) = short-then (width t.from t.number) (λ w. from_height end w (cut true false t.to t.rest)) (short-width t.from t.number)
+short-from_width end (Some t) = short-then (width t.from t.token) (λ w. from_height end w (cut true false t.to t.rest)) (short-width t.from t.token)
     (λ w. short-from_height end w (cut true false t.to t.rest))
 
 short-picture : (bytes : List ℕ) → IsShort (picture bytes)

@@ -1,5 +1,5 @@
 -- What is read where the input ends.
-use Rattle.std.proofs.Common.{◌≡◌, ℕ, zero, suc, ◌+◌, ◌-◌, ◌*◌, ◌<◌, Bool, true, false, List, [], length, refl, sym, ap, ◌∙◌, arith, append-nil}
+use Rattle.std.proofs.Common.{◌≡◌, ℕ, zero, suc, ◌+◌, ◌-◌, ◌*◌, ◌<◌, Bool, true, false, [], length, refl, sym, ap, ◌∙◌, arith, append-nil}
 use Rattle.std.specs.Prelude.{Result, Ok, Err, None, Some, nat_lt, if◌then◌else◌, MatchResult}
 use Rattle.hg_base.specs.declared.fault.FaultKind.TheVariants.{Truncated}
 use Rattle.hg_base.specs.declared.fault.InputFault.{InputFault}
@@ -13,11 +13,10 @@ use Rattle.pgm_reader.specs.declared.stage.Field.{Field}
 use Rattle.pgm_reader.specs.declared.stage.Field.TheVariants as fields
 use Rattle.pgm_reader.specs.declared.stage.Stage.TheVariants as stages
 use Rattle.input_tokens.specs.Progress.{Answers}
-use Rattle.pgm_reader.specs.Raster.{Raster}
-use Rattle.pgm_reader.specs.Pgm.{cut, cut_here, gap, width, height, greatest, samples, pixels, from_width, from_height, from_greatest, picture}
+use Rattle.pgm_reader.specs.Pgm.{cut, token_cut_at, gap, width, height, greatest, samples, pixels, from_width, from_height, from_greatest}
 use Rattle.pgm_reader.specs.Lexing.{next_token, cut_token}
 use Rattle.pgm_reader.specs.Parsing.{Parsing, IsFaultOf, reading, reading_at, from_field, from_samples, hash_ends}
-use Rattle.pgm_reader.proofs.Steps.{reads-at, drop-none}
+use Rattle.pgm_reader.proofs.BytesRead.{reads-at, drop-none}
 
 pub fault-answers : (p : Parsing) (end : ℕ) (answer : ReadError) → IsFaultOf p end answer → Answers (Err answer) (reading p end end [])
 fault-answers p end (errors.Fault f) is = is
@@ -65,7 +64,7 @@ from-fault fields.Greatest p end found f e = rw e refl
 
 from-ok : (field : Field) (p : Parsing) (end : ℕ) (found : Found) (n : ℕ) → read_as field p found ≡ Ok n
     → from_field field p end (Some (cut_token found end [])) ≡ fault Truncated end 0
-unfolding from_field from_width from_height from_greatest pixels cut cut_here gap blanked
+unfolding from_field from_width from_height from_greatest pixels cut token_cut_at gap blanked
 from-ok fields.Width p end found n e = rw e refl
 from-ok fields.Height p end found n e = rw e refl
 from-ok fields.Greatest p end found n e = rw e refl
@@ -83,7 +82,7 @@ last-answer p end field lexer found r answer e some read m =
 
 -- the form itself is cut
 pub form-last : (p : Parsing) (end : ℕ) → p.stage ≡ stages.Form → reading p end end [] ≡ fault Truncated end 0
-unfolding reading_at cut cut_here gap blanked from_width
+unfolding reading_at cut token_cut_at gap blanked from_width
 form-last p end e = reads-at p _ end end [] e ∙ rw (drop-none (2 - end)) refl
 
 some-size : (small : Bool) → nat_lt 0 (if small then 1 else 2) ≡ true

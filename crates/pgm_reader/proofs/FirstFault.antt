@@ -11,11 +11,11 @@ use Rattle.input_tokens.specs.Rules.{◌>>=◌, fault, within_limit, number_read
 use Rattle.input_tokens.proofs.PlacedFaults.{FaultsAt, at-ok, at-fault, at-then, at-either, at-most, IsRule, rule-number}
 use Rattle.input_tokens.specs.declared.token.Token.{Token}
 use Rattle.pgm_reader.specs.Raster.{Raster}
-use Rattle.pgm_reader.specs.Pgm.{CutToken, cut, cut_here, gap, width, height, greatest, samples, pixels, from_width, from_height, from_greatest, picture}
+use Rattle.pgm_reader.specs.Pgm.{CutToken, cut, token_cut_at, gap, width, height, greatest, samples, pixels, from_width, from_height, from_greatest, picture}
 use Rattle.pgm_reader.specs.FirstFault.{where_right, right_tokens, greatest_tokens, height_tokens, header, IsBeside, PartsNone, missing, IsFirst}
 use Rattle.pgm_reader.proofs.Samples.{samples-one, samples-two, judged}
 use Rattle.pgm_reader.proofs.Endings.{sample-cut}
-use Rattle.pgm_reader.proofs.Onward.{with_rest, is-cut}
+use Rattle.pgm_reader.proofs.CutTokens.{with_rest, is-cut}
 
 -- the bytes up to this place have a fault there, and so has the whole where no token is parted
 record Finds {A : Type 0} (place : ℕ) (apart : Type 0) (short whole : Result A InputFault) : Type 0 where
@@ -220,7 +220,7 @@ goes-behind-width upto end rest w place ys long =
     (goes-token true (height w) (behind_height w) greatest_tokens upto end place ys rest (rule-height w) long (goes-behind-height upto end w rest))
 
 nothing-read : (end : ℕ) → from_width end (cut true false 2 []) ≡ fault Truncated end 0
-unfolding from_width cut cut_here gap blanked
+unfolding from_width cut token_cut_at gap blanked
 nothing-read end = refl
 
 goes-picture : (bytes rest : List ℕ) → Goes (length bytes) (PartsNone (length bytes) (bytes ++ rest)) (picture bytes) (picture (bytes ++ rest))

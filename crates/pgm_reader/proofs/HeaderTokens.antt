@@ -1,15 +1,15 @@
 -- The tokens of a header are cut as those of an edge list are.
-use Rattle.std.proofs.Common.{◌≡◌, ◌≢◌, ℕ, ◌+◌, Bool, true, false, not, ◌&&◌, ◌||◌, List, [], ◌∷◌, length, refl, sym, ap, ◌∙◌, subst, inl, inr, add-zero}
+use Rattle.std.proofs.Common.{◌≡◌, ◌≢◌, ℕ, ◌+◌, Bool, true, false, not, ◌&&◌, ◌||◌, List, [], ◌∷◌, length, refl, sym, ap, ◌∙◌, inl, inr, add-zero}
 use Rattle.std.specs.Prelude.{◌==◌}
 use Rattle.std.specs.List.{before_first}
 use Rattle.std.proofs.lemmas.Bool.{cases_Bool}
 use Rattle.input_tokens.specs.Tokens.{is_space, is_line_end, blanked, word, meaning, tokens_from}
 use Rattle.input_tokens.proofs.ByteByByte.{word-space, word-other, tokens-space, tokens-begin, blanked-hash, blanked-other}
 use Rattle.input_tokens.proofs.Comments.{none, hash-is, hash-not, line-end-no, blanked-open, blanked-shut}
-use Rattle.pgm_reader.specs.Pgm.{ends_token, gap, cut, cut_here}
+use Rattle.pgm_reader.specs.Pgm.{ends_token, gap, cut, token_cut_at}
 use Rattle.pgm_reader.specs.HeaderTokens.{IsFirstOf}
-use Rattle.pgm_reader.proofs.Cuts.{gap-more, cut-more, text-ends, text-more, ends-not}
-use Rattle.pgm_reader.proofs.Onward.{gap-stops}
+use Rattle.pgm_reader.proofs.NextToken.{gap-more, cut-more, text-ends, text-more, ends-not}
+use Rattle.pgm_reader.proofs.CutTokens.{gap-stops}
 
 -- a text that white space or a `#` ends is a word once comments are blanked
 text-is-word : (bs : List ℕ) → before_first (ends_token true) bs ≡ word (blanked false bs)
@@ -31,7 +31,7 @@ text-is-word (b ∷ bs) = elim (cases_Bool (is_space b)) [
 -- the first token begins with the first byte
 first-here : (hash within : Bool) (place b : ℕ) (bs : List ℕ) → blanked within (b ∷ bs) ≡ b ∷ blanked false bs → is_space b ≡ false → b ≢ 35
     → IsFirstOf hash (tokens_from true place (blanked within (b ∷ bs))) (cut hash within place (b ∷ bs))
-unfolding cut cut_here
+unfolding cut token_cut_at
 first-here hash within place b bs e s h =
     let same : before_first (ends_token true) (b ∷ bs) ≡ word (b ∷ blanked false bs) =
     text-more true b bs (ends-not true b s h) ∙ ap (λ (w : List ℕ). b ∷ w) (text-is-word bs) ∙ sym (word-other b (blanked false bs) s)
@@ -51,7 +51,7 @@ first-later hash within into place b c bs e s first =
     rw (cut-more hash within into place b bs (gap-more within into b c bs e s), e, tokens-space true place c (blanked into bs) s) first
 
 first-of : (hash within : Bool) (place : ℕ) (bytes : List ℕ) → IsFirstOf hash (tokens_from true place (blanked within bytes)) (cut hash within place bytes)
-unfolding cut cut_here gap blanked tokens_from
+unfolding cut token_cut_at gap blanked tokens_from
 first-of hash within place [] = tt
 first-of hash within place (b ∷ bs) = elim (cases_Bool ((within || (b == 35)) && not (is_line_end b))) [
   | inl e ↦ first-later hash within true place b 32 bs (blanked-open within b bs e) refl (first-of hash true (place + 1) bs)

@@ -1,13 +1,13 @@
-pub mod Cuts
+pub mod NextToken
 pub mod Samples
-pub mod Reading
-pub mod Steps
+pub mod Decoding
+pub mod BytesRead
 pub mod Endings
 pub mod Forms
 pub mod Grids
 pub mod Generating
 pub mod Spelled
 pub mod Unspelled
-pub mod Onward
+pub mod CutTokens
 pub mod FirstFault
 pub mod HeaderTokens

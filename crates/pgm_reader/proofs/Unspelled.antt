@@ -11,7 +11,7 @@ use Rattle.input_tokens.specs.Rules.{◌>>=◌, fault, within_limit, number_read
 use Rattle.input_tokens.specs.declared.token.Token.{Token}
 use Rattle.input_tokens.specs.declared.token.Token.TheVariants.{Graph, GraphWithAreas, Number, Other}
 use Rattle.pgm_reader.specs.Raster.{Raster}
-use Rattle.pgm_reader.specs.Pgm.{CutToken, cut, cut_here, width, height, greatest, samples, pixels, from_width, from_height, from_greatest, picture}
+use Rattle.pgm_reader.specs.Pgm.{CutToken, cut, token_cut_at, width, height, greatest, samples, pixels, from_width, from_height, from_greatest, picture}
 use Rattle.pgm_reader.specs.Spelling.{sample_bytes, Spells}
 use Rattle.pgm_reader.proofs.Samples.{samples-one, samples-two, judged}
 
@@ -156,8 +156,8 @@ read-samples end max k place bytes xs all e = elim (cases_Bool (nat_lt max 256))
 ]
 
 -- what stands behind a token are bytes of the input
-token-bytes : (hash : Bool) (place : ℕ) (bytes : List ℕ) (t : CutToken) → All IsByte bytes → cut_here hash place bytes ≡ Some t → All IsByte t.rest
-unfolding cut_here
+token-bytes : (hash : Bool) (place : ℕ) (bytes : List ℕ) (t : CutToken) → All IsByte bytes → token_cut_at hash place bytes ≡ Some t → All IsByte t.rest
+unfolding token_cut_at
 token-bytes hash place [] t all e = cc
 token-bytes hash place (b ∷ bs) t all e =
     let same = some-inj _ t e in

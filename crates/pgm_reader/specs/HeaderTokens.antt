@@ -1,5 +1,5 @@
 -- The tokens of a picture's header beside those of an edge list.
-use Rattle.std.specs.Prelude.{◌≡◌, ℕ, Bool, true, List, [], ◌∷◌, Option, Some, None}
+use Rattle.std.specs.Prelude.{◌≡◌, Bool, true, List, [], ◌∷◌, Option, Some, None}
 use Rattle.input_tokens.specs.Tokens.{PlacedToken}
 use Rattle.pgm_reader.specs.Pgm.{CutToken}
 

@@ -26,9 +26,9 @@ abbrev pub ends_token : Bool → ℕ → Bool
 ends_token hash_ends b = is_space b || (hash_ends && (b == 35))
 
 -- the token that begins where these bytes do
-unfoldable pub cut_here : Bool → ℕ → List ℕ → Option CutToken
-cut_here hash_ends place [] = None
-cut_here hash_ends place (b ∷ bs) =
+unfoldable pub token_cut_at : Bool → ℕ → List ℕ → Option CutToken
+token_cut_at hash_ends place [] = None
+token_cut_at hash_ends place (b ∷ bs) =
     let text = before_first (ends_token hash_ends) (b ∷ bs) in
     Some (record { from = place; token = meaning text; to = place + length text; rest = drop (length text) (b ∷ bs) })
 
@@ -38,7 +38,7 @@ gap within bytes = prefix_len is_space (blanked within bytes)
 
 -- the first token of the bytes from this place on
 unfoldable pub cut : Bool → Bool → ℕ → List ℕ → Option CutToken
-cut hash_ends within place bytes = cut_here hash_ends (place + gap within bytes) (drop (gap within bytes) bytes)
+cut hash_ends within place bytes = token_cut_at hash_ends (place + gap within bytes) (drop (gap within bytes) bytes)
 
 -- A rule says what a token at a place gives.
 

@@ -1,5 +1,5 @@
 -- What a decoder of pictures has read, said by what is still to come.
-use Rattle.std.specs.Prelude.{ℕ, ◌+◌, Bool, List, [], length, Result}
+use Rattle.std.specs.Prelude.{ℕ, ◌+◌, Bool, List, length, Result}
 use Rattle.hg_base.specs.declared.fault.InputFault.{InputFault}
 use Rattle.input_tokens.specs.Progress.{Onward, ReadsOnFrom}
 use Rattle.pgm_reader.specs.Raster.{Raster}

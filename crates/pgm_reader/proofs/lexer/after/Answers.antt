@@ -1,5 +1,5 @@
 use Rattle.std.proofs.Common.{sym}
-use Rattle.pgm_reader.proofs.Cuts.{comment-end, comment-more, between-hash, between-space, between-begin, inside-ends, inside-more}
+use Rattle.pgm_reader.proofs.NextToken.{comment-end, comment-more, between-hash, between-space, between-begin, inside-ends, inside-more}
 use Rattle.pgm_reader.proofs.lexer.after.Goals as goal
 
 pub returns-then-is_line_end : goal.returns-then-is_line_end

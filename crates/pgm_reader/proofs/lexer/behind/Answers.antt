@@ -1,4 +1,4 @@
-use Rattle.pgm_reader.proofs.Cuts.{behind-hash, behind-space}
+use Rattle.pgm_reader.proofs.NextToken.{behind-hash, behind-space}
 use Rattle.pgm_reader.proofs.lexer.behind.Goals as goal
 
 pub returns-then-b-eq35-clause-tokens : goal.returns-then-b-eq35-clause-tokens

@@ -1,5 +1,5 @@
 use Rattle.std.proofs.Common.{inl, inr}
-use Rattle.pgm_reader.proofs.Cuts.{none-between, none-comment, last-inside}
+use Rattle.pgm_reader.proofs.NextToken.{none-between, none-comment, last-inside}
 use Rattle.pgm_reader.proofs.lexer.last.Goals as goal
 
 pub returns-in-Inside : goal.returns-in-Inside

@@ -1,6 +1,6 @@
 use Rattle.std.proofs.Common.{sym, ◌∙◌, ◌++◌, take, arith, append_assoc}
 use Rattle.std.proofs.lemmas.List.{take_more}
-use Rattle.pgm_reader.proofs.Reading.{read-more, read-over}
+use Rattle.pgm_reader.proofs.Decoding.{read-more, read-over}
 use Rattle.pgm_reader.proofs.decoder.PictureDecoder.feed.Goals as goal
 
 pub loop-b-preserved : goal.loop-b-preserved

@@ -1,4 +1,4 @@
-use Rattle.pgm_reader.proofs.Reading.{answered}
+use Rattle.pgm_reader.proofs.Decoding.{answered}
 use Rattle.pgm_reader.proofs.decoder.PictureDecoder.finish.Goals as goal
 
 pub returns-clause-read : goal.returns-clause-read

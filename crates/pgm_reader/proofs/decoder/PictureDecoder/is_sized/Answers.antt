@@ -1,5 +1,5 @@
 use Rattle.std.proofs.Common.{◌∙◌}
-use Rattle.pgm_reader.proofs.Reading.{sized-exact}
+use Rattle.pgm_reader.proofs.Decoding.{sized-exact}
 use Rattle.pgm_reader.proofs.decoder.PictureDecoder.is_sized.Goals as goal
 
 pub returns-clause-exact : goal.returns-clause-exact

@@ -3,7 +3,7 @@ use Rattle.std.specs.Prelude.{nat_lt}
 use Rattle.pgm_reader.specs.Parsing.{reading_at}
 use Rattle.pgm_reader.specs.ParserFields.{parsing_of}
 use Rattle.pgm_reader.proofs.Endings.{fault-answers, form-last, low-last}
-use Rattle.pgm_reader.proofs.Steps.{reads-at}
+use Rattle.pgm_reader.proofs.BytesRead.{reads-at}
 use Rattle.pgm_reader.proofs.parser.Parser.finish.Goals as goal
 
 pub returns-in-Header-clause-read : goal.returns-in-Header-clause-read

@@ -1,5 +1,5 @@
 use Rattle.std.proofs.Common.{sym, inl, inr}
-use Rattle.pgm_reader.proofs.Steps.{not-settled, form-not-settled, behind-header}
+use Rattle.pgm_reader.proofs.BytesRead.{not-settled, form-not-settled, behind-header}
 use Rattle.pgm_reader.proofs.parser.Parser.is_settled.Goals as goal
 
 pub returns-in-Form : goal.returns-in-Form

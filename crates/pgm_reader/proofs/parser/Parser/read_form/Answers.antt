@@ -1,5 +1,5 @@
 use Rattle.std.proofs.Common.{◌≡◌, arith}
-use Rattle.pgm_reader.proofs.Steps.{form-begins, form-ends}
+use Rattle.pgm_reader.proofs.BytesRead.{form-begins, form-ends}
 use Rattle.pgm_reader.proofs.parser.Parser.read_form.Goals as goal
 
 pub returns-then-place-eq1 : goal.returns-then-place-eq1

@@ -1,4 +1,4 @@
-use Rattle.pgm_reader.proofs.Steps.{reads-on, reads-token}
+use Rattle.pgm_reader.proofs.BytesRead.{reads-on, reads-token}
 use Rattle.pgm_reader.proofs.parser.Parser.read_header.Goals as goal
 
 pub returns-in-On : goal.returns-in-On

@@ -1,6 +1,6 @@
 use Rattle.std.proofs.Common.{◌≡◌, false, arith}
 use Rattle.std.specs.Prelude.{nat_lt}
-use Rattle.pgm_reader.proofs.Steps.{reads-low}
+use Rattle.pgm_reader.proofs.BytesRead.{reads-low}
 use Rattle.pgm_reader.proofs.parser.Parser.read_low_byte.Goals as goal
 
 pub returns : goal.returns

@@ -1,6 +1,6 @@
 use Rattle.std.proofs.Common.{◌≡◌, ◌*◌, ◌<◌, length, true, arith}
 use Rattle.std.specs.Prelude.{nat_lt}
-use Rattle.pgm_reader.proofs.Steps.{reads-trailing, reads-one, reads-high}
+use Rattle.pgm_reader.proofs.BytesRead.{reads-trailing, reads-one, reads-high}
 use Rattle.pgm_reader.proofs.parser.Parser.read_sample.Goals as goal
 
 pub returns-then-len-pixels : goal.returns-then-len-pixels

@@ -1,5 +1,5 @@
 use Rattle.std.proofs.Common.{sym}
-use Rattle.pgm_reader.proofs.Steps.{takes-greatest, takes-none, greatest-fault}
+use Rattle.pgm_reader.proofs.BytesRead.{takes-greatest, takes-none, greatest-fault}
 use Rattle.pgm_reader.proofs.parser.Parser.take_greatest.Goals as goal
 
 pub returns-in-Ok-with_capacity : goal.returns-in-Ok-with_capacity

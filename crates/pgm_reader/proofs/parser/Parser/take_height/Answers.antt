@@ -1,5 +1,5 @@
 use Rattle.std.proofs.Common.{sym}
-use Rattle.pgm_reader.proofs.Steps.{takes-height, height-fault}
+use Rattle.pgm_reader.proofs.BytesRead.{takes-height, height-fault}
 use Rattle.pgm_reader.proofs.parser.Parser.take_height.Goals as goal
 
 pub returns-in-Ok : goal.returns-in-Ok

@@ -1,4 +1,4 @@
-use Rattle.pgm_reader.proofs.Steps.{takes-sample}
+use Rattle.pgm_reader.proofs.BytesRead.{takes-sample}
 use Rattle.pgm_reader.proofs.parser.Parser.take_sample.Goals as goal
 
 pub returns-else-sample-self : goal.returns-else-sample-self

@@ -1,5 +1,5 @@
 use Rattle.std.proofs.Common.{sym}
-use Rattle.pgm_reader.proofs.Steps.{takes-width, width-fault}
+use Rattle.pgm_reader.proofs.BytesRead.{takes-width, width-fault}
 use Rattle.pgm_reader.proofs.parser.Parser.take_width.Goals as goal
 
 pub returns-in-Ok : goal.returns-in-Ok

@@ -6,8 +6,8 @@ use Rattle.std.proofs.lemmas.Bool.{cases_Bool}
 use Rattle.std.proofs.lemmas.List.{drop-append-le, length-drop}
 use Rattle.input_tokens.specs.Tokens.{is_space, blanked, meaning}
 use Rattle.input_tokens.proofs.CutInputs.{blanked-first}
-use Rattle.pgm_reader.specs.Pgm.{CutToken, ends_token, gap, cut, cut_here}
-use Rattle.pgm_reader.proofs.Cuts.{gap-more, text-ends, text-more}
+use Rattle.pgm_reader.specs.Pgm.{CutToken, ends_token, gap, cut, token_cut_at}
+use Rattle.pgm_reader.proofs.NextToken.{gap-more, text-ends, text-more}
 
 -- the bytes of the token that begins where these bytes do
 abbrev text : Bool → List ℕ → List ℕ
@@ -70,11 +70,11 @@ begun-onward hash place b bs rest h =
     ∙ ap (λ (r : List ℕ). with_rest (begun hash place b bs) r) over
 
 cut-begun : (hash : Bool) (place n b : ℕ) (ys bs : List ℕ) → gap false ys ≡ n → drop n ys ≡ b ∷ bs → cut hash false place ys ≡ Some (begun hash (place + n) b bs)
-unfolding cut cut_here
+unfolding cut token_cut_at
 cut-begun hash place n b ys bs g d = rw (g, d) refl
 
 cut-none : (hash : Bool) (place n : ℕ) (ys : List ℕ) → gap false ys ≡ n → drop n ys ≡ [] → cut hash false place ys ≡ None
-unfolding cut cut_here
+unfolding cut token_cut_at
 cut-none hash place n ys g d = rw (g, d) refl
 
 -- a token that is cut from these bytes; the one that begins there, where more stands behind them, is the same if it ends within them

@@ -1,7 +1,6 @@
 -- A decoder that has read some bytes, one byte later and at the end.
-use Rattle.std.proofs.Common.{◌≡◌, ℕ, suc, ◌+◌, Bool, true, false, List, [], ◌∷◌, ◌++◌, length, refl, sym, ap, ◌∙◌, subst, arith, append_assoc, append-nil, length-append, zero-add, add-zero}
+use Rattle.std.proofs.Common.{◌≡◌, ℕ, suc, ◌+◌, Bool, true, false, List, [], ◌∷◌, ◌++◌, length, refl, sym, ap, ◌∙◌, subst, arith, append_assoc, length-append, zero-add, add-zero}
 use Rattle.std.specs.Prelude.{Result, Err, None, Some}
-use Rattle.hg_base.specs.declared.fault.InputFault.{InputFault}
 use Rattle.hg_base.specs.declared.fault.ReadError.{ReadError}
 use Rattle.hg_base.specs.declared.fault.ReadError.TheVariants.{OutOfMemory}
 use Rattle.input_tokens.specs.declared.lexer.Lexer.{Lexer}
@@ -18,7 +17,7 @@ use Rattle.pgm_reader.specs.Pgm.{CutToken, picture, settles, width_settles, heig
 use Rattle.pgm_reader.specs.Lexing.{next_token}
 use Rattle.pgm_reader.specs.Parsing.{Parsing, Reads, reading, reading_at, settling, settling_at, field_settles, is_over, is_out_of_memory}
 use Rattle.pgm_reader.specs.Progress.{Progress, HasRead, onward, with_more, is_sized}
-use Rattle.pgm_reader.proofs.Cuts.{none-between, none-comment, last-inside}
+use Rattle.pgm_reader.proofs.NextToken.{none-between, none-comment, last-inside}
 
 shift : (place n : ℕ) → place + suc n ≡ (place + 1) + n
 shift place n = omega arith

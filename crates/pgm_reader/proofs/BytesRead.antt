@@ -1,5 +1,5 @@
 -- One byte more: what is still to come stays the same.
-use Rattle.std.proofs.Common.{◌≡◌, ℕ, suc, ◌+◌, ◌-◌, ◌*◌, ◌<◌, ◌≤◌, Bool, true, false, List, [], ◌∷◌, ◌++◌, length, drop, zero, ◌⊎◌, inl, inr, refl, sym, ap, ◌∙◌, arith}
+use Rattle.std.proofs.Common.{◌≡◌, ℕ, suc, ◌+◌, ◌-◌, ◌*◌, ◌<◌, ◌≤◌, Bool, true, false, List, [], ◌∷◌, length, drop, zero, ◌⊎◌, inl, inr, refl, sym, ap, ◌∙◌, arith}
 use Rattle.std.specs.Prelude.{Ok, Err, Some, nat_lt}
 use Rattle.hg_base.specs.declared.fault.FaultKind.TheVariants.{Trailing}
 use Rattle.hg_base.specs.declared.fault.InputFault.{InputFault}
@@ -11,10 +11,10 @@ use Rattle.pgm_reader.specs.declared.stage.Field.{Field}
 use Rattle.pgm_reader.specs.declared.stage.Field.TheVariants as fields
 use Rattle.pgm_reader.specs.declared.stage.Stage.{Stage}
 use Rattle.pgm_reader.specs.declared.stage.Stage.TheVariants as stages
-use Rattle.pgm_reader.specs.Pgm.{cut, cut_here, gap, width, height, greatest, pixels, from_width, from_height, from_greatest, width_settles, height_settles, greatest_settles}
+use Rattle.pgm_reader.specs.Pgm.{cut, token_cut_at, gap, width, height, greatest, pixels, from_width, from_height, from_greatest, width_settles, height_settles, greatest_settles}
 use Rattle.pgm_reader.specs.Lexing.{next_token, cut_token}
 use Rattle.pgm_reader.specs.Parsing.{Parsing, Reads, TakesToken, TakesSample, StandsAt, reading, settling, reading_at, settling_at, from_field, from_samples, field_settles, hash_ends, is_out_of_memory, with_sample}
-use Rattle.pgm_reader.proofs.Reading.{unsettled}
+use Rattle.pgm_reader.proofs.Decoding.{unsettled}
 use Rattle.pgm_reader.proofs.Samples.{one-byte, two-bytes, none-left}
 
 -- what has been read, with another stage
@@ -36,7 +36,7 @@ drop-none zero = refl
 drop-none (suc n) = refl
 
 pub form-not-settled : (p : Parsing) (place : ℕ) → p.stage ≡ stages.Form → settling p place [] ≡ false
-unfolding settling_at cut cut_here gap blanked width_settles
+unfolding settling_at cut token_cut_at gap blanked width_settles
 form-not-settled p place e = settles-at p _ place [] e ∙ rw (drop-none (2 - place)) refl
 
 -- once samples are read, or the reading has ended

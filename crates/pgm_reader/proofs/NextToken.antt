@@ -7,7 +7,7 @@ use Rattle.input_tokens.specs.Tokens.{is_space, is_line_end, blanked, meaning}
 use Rattle.input_tokens.proofs.ByteByByte.{blanked-hash, blanked-other, blanked-end, blanked-comment}
 use Rattle.input_tokens.specs.declared.text.Text.{Text}
 use Rattle.input_tokens.specs.declared.lexer.Lexer.TheVariants.{Between, Comment, Inside}
-use Rattle.pgm_reader.specs.Pgm.{ends_token, gap, cut, cut_here}
+use Rattle.pgm_reader.specs.Pgm.{ends_token, gap, cut, token_cut_at}
 use Rattle.input_tokens.specs.Lexing.{meaning_with}
 use Rattle.pgm_reader.specs.Lexing.{next_token}
 
@@ -63,7 +63,7 @@ text-more hash b bs e = rw (e, one-add) refl
 pub between-begin : (text : Text) (hash : Bool) (place b : ℕ) (rest : List ℕ) → b ≢ 35 → is_space b ≡ false
     → ((more : List ℕ) → meaning_with text more ≡ meaning (b ∷ more))
     → next_token hash Between place (b ∷ rest) ≡ next_token hash (Inside place text) (place + 1) rest
-unfolding next_token cut cut_here
+unfolding next_token cut token_cut_at
 between-begin text hash place b rest e s m =
     rw (gap-none b rest e s, add-zero, text-more hash b rest (ends-not hash b s e), m (before_first (ends_token hash) rest), shift place (length (before_first (ends_token hash) rest))) refl
 
@@ -96,11 +96,11 @@ behind-space hash place b rest e s =
 
 -- where no byte follows
 pub none-between : (hash : Bool) (place : ℕ) → next_token hash Between place [] ≡ None
-unfolding next_token cut cut_here gap blanked
+unfolding next_token cut token_cut_at gap blanked
 none-between hash place = refl
 
 pub none-comment : (hash : Bool) (place : ℕ) → next_token hash Comment place [] ≡ None
-unfolding next_token cut cut_here gap blanked
+unfolding next_token cut token_cut_at gap blanked
 none-comment hash place = refl
 
 pub last-inside : (text : Text) (hash : Bool) (from place : ℕ) → next_token hash (Inside from text) place [] ≡ Some (record { from = from; token = meaning_with text []; to = place; rest = [] })

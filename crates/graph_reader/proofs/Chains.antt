@@ -5,8 +5,9 @@ use Rattle.hg_base.specs.Graph.{WeightedGraph}
 use Rattle.hg_base.specs.declared.graph.Edge.{Edge}
 use Rattle.hg_base.specs.declared.fault.FaultKind.TheVariants.{Truncated}
 use Rattle.hg_base.specs.declared.fault.InputFault.{InputFault}
-use Rattle.graph_reader.specs.Tokens.{PlacedToken}
-use Rattle.graph_reader.specs.EdgeList.{◌>>=◌, fault, need, several, area, first_end, second_end, weight, edge, whole}
+use Rattle.input_tokens.specs.Tokens.{PlacedToken}
+use Rattle.input_tokens.specs.Rules.{◌>>=◌, fault}
+use Rattle.graph_reader.specs.EdgeList.{need, several, area, first_end_read, second_end_read, weight_read, edge, whole}
 use Rattle.graph_reader.specs.Parsing.{more_edges}
 
 abbrev joined : {A : Type 0} → A → List A × List PlacedToken → Result (List A × List PlacedToken) InputFault
@@ -56,16 +57,16 @@ weight-first g j end u v (Ok w) = edge-first g (record { u = u; v = v; w = w.0 }
 weight-first g j end u v (Err f) = refl
 
 second_end-first : (g : WeightedGraph) (j end u : ℕ) (r : Result (ℕ × List PlacedToken) InputFault)
-    → (r >>= λ v. (need end weight v.1 >>= λ w. more_edges (extended g (record { u = u; v = v.0; w = w.0 })) j end w.1))
-    ≡ (((r >>= λ v. (need end weight v.1 >>= edge_of u v.0)) >>= λ x. (several j (edge g.n end) x.1 >>= joined x.0))
+    → (r >>= λ v. (need end weight_read v.1 >>= λ w. more_edges (extended g (record { u = u; v = v.0; w = w.0 })) j end w.1))
+    ≡ (((r >>= λ v. (need end weight_read v.1 >>= edge_of u v.0)) >>= λ x. (several j (edge g.n end) x.1 >>= joined x.0))
     >>= λ e. whole (record { n = g.n; areas = g.areas; edges = g.edges ++ e.0 }) e.1)
-second_end-first g j end u (Ok v) = weight-first g j end u v.0 (need end weight v.1)
+second_end-first g j end u (Ok v) = weight-first g j end u v.0 (need end weight_read v.1)
 second_end-first g j end u (Err f) = refl
 
 -- the first end of the next edge was read
 pub more_edges-step : (g : WeightedGraph) (k j end : ℕ) (t : PlacedToken) (ts : List PlacedToken) (u : ℕ)
-    → k ≡ suc j → first_end g.n t.from t.token ≡ Ok u
-    → (need end (second_end g.n u) ts >>= λ v. (need end weight v.1 >>= λ w. more_edges (extended g (record { u = u; v = v.0; w = w.0 })) j end w.1))
+    → k ≡ suc j → first_end_read g.n t.from t.token ≡ Ok u
+    → (need end (second_end_read g.n u) ts >>= λ v. (need end weight_read v.1 >>= λ w. more_edges (extended g (record { u = u; v = v.0; w = w.0 })) j end w.1))
     ≡ more_edges g k end (t ∷ ts)
 unfolding several edge
-more_edges-step g k j end t ts u e ok = rw (e, ok) (second_end-first g j end u (need end (second_end g.n u) ts))
+more_edges-step g k j end t ts u e ok = rw (e, ok) (second_end-first g j end u (need end (second_end_read g.n u) ts))

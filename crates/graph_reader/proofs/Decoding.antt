@@ -1,22 +1,23 @@
 -- A decoder that has read some bytes, one byte later and at the end.
-use Rattle.std.proofs.Common.{◌≡◌, ℕ, suc, ◌+◌, Bool, true, false, List, [], ◌∷◌, ◌++◌, length, refl, sym, ap, ◌∙◌, subst, arith, append_assoc, append-nil, length-append, zero-add, add-zero}
+use Rattle.std.proofs.Common.{◌≡◌, ℕ, suc, ◌+◌, true, false, List, [], ◌∷◌, ◌++◌, length, refl, sym, ap, ◌∙◌, arith, append_assoc, append-nil, length-append, zero-add, add-zero}
 use Rattle.std.specs.Prelude.{Result, Err, nat_lt}
 use Rattle.hg_base.specs.Graph.{WeightedGraph}
-use Rattle.hg_base.specs.declared.fault.InputFault.{InputFault}
 use Rattle.hg_base.specs.declared.fault.ReadError.{ReadError}
 use Rattle.hg_base.specs.declared.fault.ReadError.TheVariants.{OutOfMemory}
-use Rattle.graph_reader.specs.declared.token.Token.{Token}
-use Rattle.graph_reader.specs.declared.token.Found.{Found}
-use Rattle.graph_reader.specs.declared.lexer.Text.{Text}
-use Rattle.graph_reader.specs.declared.lexer.Lexer.{Lexer}
-use Rattle.graph_reader.specs.declared.lexer.Lexer.TheVariants.{Between, Comment, Inside}
+use Rattle.input_tokens.specs.declared.token.Token.{Token}
+use Rattle.input_tokens.specs.declared.token.Found.{Found}
+use Rattle.input_tokens.specs.declared.text.Text.{Text}
+use Rattle.input_tokens.specs.declared.lexer.Lexer.{Lexer}
+use Rattle.input_tokens.specs.declared.lexer.Lexer.TheVariants.{Between, Comment, Inside}
 use Rattle.graph_reader.specs.declared.parser.Stage.{Stage}
 use Rattle.graph_reader.specs.declared.parser.Stage.TheVariants as stages
-use Rattle.graph_reader.specs.Tokens.{PlacedToken, blanked, tokens_from}
-use Rattle.graph_reader.specs.EdgeList.{edge_list, ended, settles}
-use Rattle.graph_reader.specs.Lexing.{meaning_with, lexed, placed, AreThree}
+use Rattle.input_tokens.specs.Tokens.{PlacedToken, blanked, tokens_from, ended}
+use Rattle.graph_reader.specs.EdgeList.{edge_list, settles}
+use Rattle.input_tokens.specs.Lexing.{meaning_with, lexed, placed, AreThree}
 use Rattle.graph_reader.specs.Parsing.{Parsing, Takes, TakesThree, reading_at, settling, is_over, is_out_of_memory, is_counting, KeepsMemory}
-use Rattle.graph_reader.specs.Progress.{Progress, HasRead, Answers, with_more, reading_on, settles_with}
+use Rattle.input_tokens.specs.Progress.{Answers}
+use Rattle.input_tokens.proofs.Answering.{back, answered as any-answered}
+use Rattle.graph_reader.specs.Progress.{Progress, HasRead, onward, with_more, reading_on, settles_with}
 
 abbrev progress : ℕ → Lexer → Parsing → Progress
 progress n l p = record { taken = n; lexer = l; parsing = p }
@@ -36,10 +37,6 @@ none-past n = grind arith
 not-counting : (s : Stage) → is_out_of_memory s ≡ true → is_counting s ≡ false
 not-counting stages.Edges e = cc
 not-counting _ e = refl
-
-back : (a b : Bool) → (a ≡ true → b ≡ true) → b ≡ false → a ≡ false
-back true b h e = let t : b ≡ true = h refl in cc
-back false b h e = refl
 
 pub runs-out : (p q : Parsing) (at : ℕ) (token : Token) → Takes p q at token → is_out_of_memory p.stage ≡ true → is_out_of_memory q.stage ≡ true
 runs-out p q at token takes e = takes.memory (not-counting p.stage e) ∙ e
@@ -205,19 +202,12 @@ pub sized-exact : (d : Progress) (bytes : List ℕ) → HasRead d bytes → sett
 unfolding settles_with
 sized-exact d bytes read = rw (← append-nil bytes, ← read.settling [], none-ends d.lexer d.taken) refl
 
-answered-by : (r : Result WeightedGraph ReadError) (x y : Result WeightedGraph InputFault) (out : Bool)
-    → (out ≡ false → x ≡ y) → (out ≡ false → Answers r x) → (out ≡ true → r ≡ Err OutOfMemory) → Answers r y
-answered-by r x y false same answers none = subst (λ (z : Result WeightedGraph InputFault). Answers r z) (same refl) (answers refl)
-answered-by r x y true same answers none = rw (none refl) tt
-
 -- an answer to what is still to come is an answer to all that was read
 pub answered : (r : Result WeightedGraph ReadError) (d : Progress) (bytes : List ℕ) → HasRead d bytes
     → (is_out_of_memory d.parsing.stage ≡ false → Answers r (reading_on d []))
     → (is_out_of_memory d.parsing.stage ≡ true → r ≡ Err OutOfMemory)
     → Answers r (edge_list bytes)
-answered r d bytes read answers none =
-    answered-by r (reading_on d []) (edge_list bytes) (is_out_of_memory d.parsing.stage)
-    (λ memory. read.reading memory [] ∙ ap edge_list (append-nil bytes)) answers none
+answered r d bytes read answers none = any-answered edge_list settles r (onward d) bytes read answers none
 
 -- nothing more is read at the end but a token that goes up to it
 pub at-end : (n : ℕ) (p : Parsing) → reading_on (progress n Between p) [] ≡ reading_at p.stage p n []

@@ -6,11 +6,11 @@ use Rattle.std.proofs.lemmas.List.Elements.{Contains-append_cases, Contains-appe
 use Rattle.hg_base.specs.Graph.{WeightedGraph}
 use Rattle.hg_base.specs.declared.fault.FaultKind.TheVariants.{UnknownForm, Truncated}
 use Rattle.hg_base.specs.declared.fault.InputFault.{InputFault}
-use Rattle.graph_reader.specs.Tokens.{PlacedToken, tokens}
+use Rattle.input_tokens.specs.Tokens.{PlacedToken, tokens}
 use Rattle.graph_reader.specs.EdgeList.{graph, edge_list}
 use Rattle.graph_reader.specs.FirstFault.{IsRightBefore, IsFirstWrong, EndsTooEarly}
 use Rattle.graph_reader.proofs.LeftToRight.{Fails, ends-graph, graph-nothing}
-use Rattle.graph_reader.proofs.Cuts.{tokens-onward, tokens-cut, token-inside}
+use Rattle.input_tokens.proofs.CutInputs.{tokens-onward, tokens-cut, token-inside}
 
 same-fault : (x y : InputFault) → (let r : Result WeightedGraph InputFault = Err x in r) ≡ Err y → x ≡ y
 same-fault x y e = cc

@@ -3,40 +3,14 @@ use Rattle.std.proofs.Common.{◌≡◌, ◌≢◌, ℕ, zero, suc, Bool, true, 
 use Rattle.std.specs.Prelude.{Result, Ok, Err, replicate, if◌then◌else◌, nat_lt, ◌==◌}
 use Rattle.hg_base.specs.Graph.{WeightedGraph}
 use Rattle.hg_base.specs.declared.graph.Edge.{Edge}
-use Rattle.hg_base.specs.declared.fault.FaultKind.{FaultKind}
-use Rattle.hg_base.specs.declared.fault.FaultKind.TheVariants.{UnknownForm, BadNumber, TooLarge, Truncated, Trailing, OutOfRange, Loop, NoVertex}
+use Rattle.hg_base.specs.declared.fault.FaultKind.TheVariants.{UnknownForm, BadNumber, Truncated, Trailing, OutOfRange, Loop, NoVertex}
 use Rattle.hg_base.specs.declared.fault.InputFault.{InputFault}
-use Rattle.graph_reader.specs.declared.token.Token.{Token}
-use Rattle.graph_reader.specs.declared.token.Token.TheVariants.{Graph, GraphWithAreas, Number, Other}
-use Rattle.graph_reader.specs.Tokens.{PlacedToken}
-use Rattle.graph_reader.specs.EdgeList.{◌>>=◌, at_most, next, need, first_word, number, vertices, edges, area, first_end, second_end, weight, edge, several, areas, whole, graph, fault}
-
--- each fault of it stands at this place, and isn't that the input ends
-abbrev pub FaultsAt : {A : Type 0} → ℕ → Result A InputFault → Type 0
-FaultsAt at r = (f : InputFault) → r ≡ Err f → (f.at ≡ at) × (f.kind ≢ Truncated)
-
-pub at-ok : {A : Type 0} (at : ℕ) (x : A) → FaultsAt at (Ok x)
-at-ok at x f e = cc
-
-err-inj : {A : Type 0} (x y : InputFault) → (let r : Result A InputFault = Err x in r) ≡ Err y → x ≡ y
-err-inj x y e = cc
-
-pub at-fault : {A : Type 0} (kind : FaultKind) (at value : ℕ) → kind ≢ Truncated → FaultsAt {A = A} at (fault kind at value)
-at-fault {A} kind at value other f e =
-    let same = err-inj {A = A} (record { kind = kind; at = at; value = value }) f e in
-    (sym (ap (λ (g : InputFault). g.at) same), λ ends. other (ap (λ (g : InputFault). g.kind) same ∙ ends))
-
-pub at-then : {A B : Type 0} (at : ℕ) (r : Result A InputFault) (next : A → Result B InputFault) → FaultsAt at r → ((x : A) → FaultsAt at (next x)) → FaultsAt at (r >>= next)
-at-then at (Ok x) next first others f e = others x f e
-at-then {A} at (Err g) next first others f e = first f (ap (λ (h : InputFault). let r : Result A InputFault = Err h in r) (err-inj g f e))
-
-pub at-either : {A : Type 0} (at : ℕ) (b : Bool) (x y : Result A InputFault) → FaultsAt at x → FaultsAt at y → FaultsAt at (if b then x else y)
-at-either at true x y p q = p
-at-either at false x y p q = q
-
--- a rule's faults stand at the token that it is for
-abbrev IsRule : {A : Type 0} → (ℕ → Token → Result A InputFault) → Type 0
-IsRule rule = (at : ℕ) (token : Token) → FaultsAt at (rule at token)
+use Rattle.input_tokens.specs.declared.token.Token.{Token}
+use Rattle.input_tokens.specs.declared.token.Token.TheVariants.{Graph, GraphWithAreas, Number, Other}
+use Rattle.input_tokens.specs.Tokens.{PlacedToken}
+use Rattle.input_tokens.specs.Rules.{◌>>=◌, within_limit, number_read, fault}
+use Rattle.input_tokens.proofs.PlacedFaults.{FaultsAt, at-ok, at-fault, at-then, at-either, at-most, IsRule, rule-number}
+use Rattle.graph_reader.specs.EdgeList.{need, first_word, vertices, edges, area, first_end_read, second_end_read, weight_read, edge, several, areas, whole, graph}
 
 rule-first_word : IsRule first_word
 unfolding first_word
@@ -45,43 +19,33 @@ rule-first_word at GraphWithAreas = at-ok at true
 rule-first_word at (Number n) = at-fault UnknownForm at 0 (λ e. cc)
 rule-first_word at Other = at-fault UnknownForm at 0 (λ e. cc)
 
-rule-number : IsRule number
-unfolding number
-rule-number at (Number n) = at-ok at n
-rule-number at Graph = at-fault BadNumber at 0 (λ e. cc)
-rule-number at GraphWithAreas = at-fault BadNumber at 0 (λ e. cc)
-rule-number at Other = at-fault BadNumber at 0 (λ e. cc)
-
-pub at-most : (limit at n : ℕ) → FaultsAt at (at_most limit at n)
-at-most limit at n = at-either at (nat_lt limit n) (fault TooLarge at n) (Ok n) (at-fault TooLarge at n (λ e. cc)) (at-ok at n)
-
 rule-vertices : IsRule vertices
 unfolding vertices
-rule-vertices at token = at-then at (number at token) (λ n. if n == 0 then fault NoVertex at 0 else at_most 1048576 at n) (rule-number at token)
-    (λ n. at-either at (n == 0) (fault NoVertex at 0) (at_most 1048576 at n) (at-fault NoVertex at 0 (λ e. cc)) (at-most 1048576 at n))
+rule-vertices at token = at-then at (number_read at token) (λ n. if n == 0 then fault NoVertex at 0 else within_limit 1048576 at n) (rule-number at token)
+    (λ n. at-either at (n == 0) (fault NoVertex at 0) (within_limit 1048576 at n) (at-fault NoVertex at 0 (λ e. cc)) (at-most 1048576 at n))
 
 rule-edges : IsRule edges
 unfolding edges
-rule-edges at token = at-then at (number at token) (λ m. at_most 4194304 at m) (rule-number at token) (at-most 4194304 at)
+rule-edges at token = at-then at (number_read at token) (λ m. within_limit 4194304 at m) (rule-number at token) (at-most 4194304 at)
 
 rule-area : IsRule area
 unfolding area
-rule-area at token = at-then at (number at token) (λ a. if a == 0 then fault BadNumber at 0 else at_most 4096 at a) (rule-number at token)
-    (λ a. at-either at (a == 0) (fault BadNumber at 0) (at_most 4096 at a) (at-fault BadNumber at 0 (λ e. cc)) (at-most 4096 at a))
+rule-area at token = at-then at (number_read at token) (λ a. if a == 0 then fault BadNumber at 0 else within_limit 4096 at a) (rule-number at token)
+    (λ a. at-either at (a == 0) (fault BadNumber at 0) (within_limit 4096 at a) (at-fault BadNumber at 0 (λ e. cc)) (at-most 4096 at a))
 
-rule-first_end : (n : ℕ) → IsRule (first_end n)
-unfolding first_end
-rule-first_end n at token = at-then at (number at token) (λ u. if nat_lt u n then Ok u else fault OutOfRange at u) (rule-number at token)
+rule-first_end : (n : ℕ) → IsRule (first_end_read n)
+unfolding first_end_read
+rule-first_end n at token = at-then at (number_read at token) (λ u. if nat_lt u n then Ok u else fault OutOfRange at u) (rule-number at token)
     (λ u. at-either at (nat_lt u n) (Ok u) (fault OutOfRange at u) (at-ok at u) (at-fault OutOfRange at u (λ e. cc)))
 
-rule-second_end : (n u : ℕ) → IsRule (second_end n u)
-unfolding second_end
-rule-second_end n u at token = at-then at (first_end n at token) (λ v. if v == u then fault Loop at v else Ok v) (rule-first_end n at token)
+rule-second_end : (n u : ℕ) → IsRule (second_end_read n u)
+unfolding second_end_read
+rule-second_end n u at token = at-then at (first_end_read n at token) (λ v. if v == u then fault Loop at v else Ok v) (rule-first_end n at token)
     (λ v. at-either at (v == u) (fault Loop at v) (Ok v) (at-fault Loop at v (λ e. cc)) (at-ok at v))
 
-rule-weight : IsRule weight
-unfolding weight
-rule-weight at token = at-then at (number at token) (λ w. at_most 4294967295 at w) (rule-number at token) (at-most 4294967295 at)
+rule-weight : IsRule weight_read
+unfolding weight_read
+rule-weight at token = at-then at (number_read at token) (λ w. within_limit 4294967295 at w) (rule-number at token) (at-most 4294967295 at)
 
 -- what is read of the tokens of an input with this end
 abbrev Reading : Type 0 → Type 0
@@ -214,11 +178,11 @@ edges_of n end ts = edge n end ts
 goes-edge : (n : ℕ) (ts : List PlacedToken) → Goes (edges_of n) ts
 unfolding edge
 goes-edge n ts =
-    goes-then (needs (first_end n)) (λ u. thence (needs (second_end n u)) (λ v. thence (needs weight) (λ w. given (record { u = u; v = v; w = w })))) ts
-    (goes-need (first_end n) (rule-first_end n) ts)
-    (λ u more. goes-then (needs (second_end n u)) (λ v. thence (needs weight) (λ w. given (record { u = u; v = v; w = w }))) more
-    (goes-need (second_end n u) (rule-second_end n u) more)
-    (λ v more. goes-then (needs weight) (λ w. given (record { u = u; v = v; w = w })) more (goes-need weight rule-weight more)
+    goes-then (needs (first_end_read n)) (λ u. thence (needs (second_end_read n u)) (λ v. thence (needs weight_read) (λ w. given (record { u = u; v = v; w = w })))) ts
+    (goes-need (first_end_read n) (rule-first_end n) ts)
+    (λ u more. goes-then (needs (second_end_read n u)) (λ v. thence (needs weight_read) (λ w. given (record { u = u; v = v; w = w }))) more
+    (goes-need (second_end_read n u) (rule-second_end n u) more)
+    (λ v more. goes-then (needs weight_read) (λ w. given (record { u = u; v = v; w = w })) more (goes-need weight_read rule-weight more)
     (λ w more. goes-given (record { u = u; v = v; w = w }) more)))
 
 abbrev areas_of : Bool → ℕ → Reading (List ℕ × List PlacedToken)

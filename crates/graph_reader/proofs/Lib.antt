@@ -1,13 +1,7 @@
-pub mod Texts
-pub mod Steps
 pub mod Chains
 pub mod Takes
-pub mod Runs
 pub mod Decoding
 pub mod Pictures
 pub mod Spelling
-pub mod Cuts
-pub mod FirstFault
 pub mod LeftToRight
-pub mod Comments
-pub mod LongestRuns
+pub mod FirstFault

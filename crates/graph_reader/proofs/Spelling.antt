@@ -7,10 +7,11 @@ use Rattle.hg_base.specs.Graph.{WeightedGraph}
 use Rattle.hg_base.specs.declared.graph.Edge.{Edge}
 use Rattle.hg_base.specs.declared.fault.FaultKind.TheVariants.{UnknownForm, BadNumber, TooLarge, OutOfRange, Loop, NoVertex}
 use Rattle.hg_base.specs.declared.fault.InputFault.{InputFault}
-use Rattle.graph_reader.specs.declared.token.Token.{Token}
-use Rattle.graph_reader.specs.declared.token.Token.TheVariants.{Graph, GraphWithAreas, Number, Other}
-use Rattle.graph_reader.specs.Tokens.{PlacedToken, tokens}
-use Rattle.graph_reader.specs.EdgeList.{◌>>=◌, at_most, next, need, first_word, number, vertices, edges, area, first_end, second_end, weight, edge, several, areas, whole, graph, edge_list, fault}
+use Rattle.input_tokens.specs.declared.token.Token.{Token}
+use Rattle.input_tokens.specs.declared.token.Token.TheVariants.{Graph, GraphWithAreas, Number, Other}
+use Rattle.input_tokens.specs.Tokens.{PlacedToken, tokens}
+use Rattle.input_tokens.specs.Rules.{◌>>=◌, within_limit, number_read, fault}
+use Rattle.graph_reader.specs.EdgeList.{next, need, first_word, vertices, edges, area, first_end_read, second_end_read, weight_read, edge, several, areas, whole, graph, edge_list}
 use Rattle.graph_reader.specs.Spelling.{edge_tokens, area_tokens, graph_tokens, IsEdge, Spells}
 
 abbrev says : PlacedToken → Token
@@ -24,27 +25,27 @@ below u n h = grind arith
 
 -- the rules give the numbers that are spelled
 vertices-says : (n : ℕ) → 1 ≤ n → n ≤ 1048576 → (at : ℕ) → vertices at (Number n) ≡ Ok n
-unfolding vertices number
+unfolding vertices number_read
 vertices-says n some h at = rw (ne_eqb n 0 (λ e. omega arith), not-above 1048576 n h) refl
 
 edges-says : (m : ℕ) → m ≤ 4194304 → (at : ℕ) → edges at (Number m) ≡ Ok m
-unfolding edges number
+unfolding edges number_read
 edges-says m h at = rw (not-above 4194304 m h) refl
 
 area-says : (a : ℕ) → 1 ≤ a → a ≤ 4096 → (at : ℕ) → area at (Number a) ≡ Ok a
-unfolding area number
+unfolding area number_read
 area-says a some h at = rw (ne_eqb a 0 (λ e. omega arith), not-above 4096 a h) refl
 
-first_end-says : (n u : ℕ) → u < n → (at : ℕ) → first_end n at (Number u) ≡ Ok u
-unfolding first_end number
+first_end-says : (n u : ℕ) → u < n → (at : ℕ) → first_end_read n at (Number u) ≡ Ok u
+unfolding first_end_read number_read
 first_end-says n u h at = rw (below u n h) refl
 
-second_end-says : (n u v : ℕ) → v < n → u ≢ v → (at : ℕ) → second_end n u at (Number v) ≡ Ok v
-unfolding second_end
+second_end-says : (n u v : ℕ) → v < n → u ≢ v → (at : ℕ) → second_end_read n u at (Number v) ≡ Ok v
+unfolding second_end_read
 second_end-says n u v h apart at = rw (first_end-says n v h at, ne_eqb v u (λ e. apart (sym e))) refl
 
-weight-says : (w : ℕ) → w ≤ 4294967295 → (at : ℕ) → weight at (Number w) ≡ Ok w
-unfolding weight number
+weight-says : (w : ℕ) → w ≤ 4294967295 → (at : ℕ) → weight_read at (Number w) ≡ Ok w
+unfolding weight_read number_read
 weight-says w h at = rw (not-above 4294967295 w h) refl
 
 -- a token that is spelled is read
@@ -77,9 +78,9 @@ edge-one : (n end : ℕ) (x : Edge) (ts : List PlacedToken) (rest : List Token) 
     → (after : List PlacedToken) × (edge n end ts ≡ Ok (x, after)) × (map says after ≡ rest)
 unfolding edge
 edge-one n end x ts rest p e =
-    let u = need-says end (first_end n) x.u (Number x.u) ts (Number x.v ∷ Number x.w ∷ rest) e (first_end-says n x.u p.joins.u) in
-    let v = need-says end (second_end n x.u) x.v (Number x.v) u.0 (Number x.w ∷ rest) u.2 (second_end-says n x.u x.v p.joins.v p.joins.apart) in
-    let w = need-says end weight x.w (Number x.w) v.0 rest v.2 (weight-says x.w p.weight) in
+    let u = need-says end (first_end_read n) x.u (Number x.u) ts (Number x.v ∷ Number x.w ∷ rest) e (first_end-says n x.u p.joins.u) in
+    let v = need-says end (second_end_read n x.u) x.v (Number x.v) u.0 (Number x.w ∷ rest) u.2 (second_end-says n x.u x.v p.joins.v p.joins.apart) in
+    let w = need-says end weight_read x.w (Number x.w) v.0 rest v.2 (weight-says x.w p.weight) in
     (w.0, rw (u.1, v.1, w.1) refl, w.2)
 
 word-says : (with_areas : Bool) (missing : Result (Bool × List PlacedToken) InputFault) (a : Token) (ts : List PlacedToken) (rest : List Token)
@@ -140,14 +141,14 @@ need-ok {A} end rule (t ∷ ts) x after e =
 need-spelled : (ts : List PlacedToken) (t : PlacedToken) (after : List PlacedToken) (a : Token) → ts ≡ t ∷ after → t.token ≡ a → map says ts ≡ a ∷ map says after
 need-spelled ts t after a split said = rw (split, said) refl
 
-number-ok : (at : ℕ) (token : Token) (n : ℕ) → number at token ≡ Ok n → token ≡ Number n
-unfolding number
+number-ok : (at : ℕ) (token : Token) (n : ℕ) → number_read at token ≡ Ok n → token ≡ Number n
+unfolding number_read
 number-ok at (Number k) n e = cc
 number-ok at Graph n e = cc
 number-ok at GraphWithAreas n e = cc
 number-ok at Other n e = cc
 
-at_most-ok : (limit at n m : ℕ) → at_most limit at n ≡ Ok m → (n ≡ m) × (m ≤ limit)
+at_most-ok : (limit at n m : ℕ) → within_limit limit at n ≡ Ok m → (n ≡ m) × (m ≤ limit)
 at_most-ok limit at n m e = elim (test-split (nat_lt limit n) (fault TooLarge at n) (Ok n) (Ok m) e) [
   | inl h ↦ let no : fault TooLarge at n ≡ Ok m = h.1 in cc
   | inr h ↦ let same : n ≡ m = cc in (same, grind (arith, h.0, same))
@@ -157,8 +158,8 @@ at_most-ok limit at n m e = elim (test-split (nat_lt limit n) (fault TooLarge at
 vertices-ok : (at : ℕ) (token : Token) (n : ℕ) → vertices at token ≡ Ok n → (token ≡ Number n) × (1 ≤ n) × (n ≤ 1048576)
 unfolding vertices
 vertices-ok at token n e =
-    let s = ok-split (number at token) (λ k. cond (nat_eq k 0) (fault NoVertex at 0) (at_most 1048576 at k)) n e in
-    elim (test-split (nat_eq s.0 0) (fault NoVertex at 0) (at_most 1048576 at s.0) (Ok n) s.2) [
+    let s = ok-split (number_read at token) (λ k. cond (nat_eq k 0) (fault NoVertex at 0) (within_limit 1048576 at k)) n e in
+    elim (test-split (nat_eq s.0 0) (fault NoVertex at 0) (within_limit 1048576 at s.0) (Ok n) s.2) [
       | inl h ↦ let no : fault NoVertex at 0 ≡ Ok n = h.1 in cc
       | inr h ↦
           let small = at_most-ok 1048576 at s.0 n h.1 in
@@ -169,15 +170,15 @@ vertices-ok at token n e =
 edges-ok : (at : ℕ) (token : Token) (m : ℕ) → edges at token ≡ Ok m → (token ≡ Number m) × (m ≤ 4194304)
 unfolding edges
 edges-ok at token m e =
-    let s = ok-split (number at token) (λ k. at_most 4194304 at k) m e in
+    let s = ok-split (number_read at token) (λ k. within_limit 4194304 at k) m e in
     let small = at_most-ok 4194304 at s.0 m s.2 in
     (number-ok at token s.0 s.1 ∙ ap Number small.0, small.1)
 
 area-ok : (at : ℕ) (token : Token) (a : ℕ) → area at token ≡ Ok a → (token ≡ Number a) × (1 ≤ a) × (a ≤ 4096)
 unfolding area
 area-ok at token a e =
-    let s = ok-split (number at token) (λ k. cond (nat_eq k 0) (fault BadNumber at 0) (at_most 4096 at k)) a e in
-    elim (test-split (nat_eq s.0 0) (fault BadNumber at 0) (at_most 4096 at s.0) (Ok a) s.2) [
+    let s = ok-split (number_read at token) (λ k. cond (nat_eq k 0) (fault BadNumber at 0) (within_limit 4096 at k)) a e in
+    elim (test-split (nat_eq s.0 0) (fault BadNumber at 0) (within_limit 4096 at s.0) (Ok a) s.2) [
       | inl h ↦ let no : fault BadNumber at 0 ≡ Ok a = h.1 in cc
       | inr h ↦
           let small = at_most-ok 4096 at s.0 a h.1 in
@@ -185,19 +186,19 @@ area-ok at token a e =
           (number-ok at token s.0 s.1 ∙ ap Number small.0, omega (arith, small.0, some), small.1)
     ]
 
-first_end-ok : (n at : ℕ) (token : Token) (u : ℕ) → first_end n at token ≡ Ok u → (token ≡ Number u) × (u < n)
-unfolding first_end
+first_end-ok : (n at : ℕ) (token : Token) (u : ℕ) → first_end_read n at token ≡ Ok u → (token ≡ Number u) × (u < n)
+unfolding first_end_read
 first_end-ok n at token u e =
-    let s = ok-split (number at token) (λ k. cond (nat_lt k n) (Ok k) (fault OutOfRange at k)) u e in
+    let s = ok-split (number_read at token) (λ k. cond (nat_lt k n) (Ok k) (fault OutOfRange at k)) u e in
     elim (test-split (nat_lt s.0 n) (Ok s.0) (fault OutOfRange at s.0) (Ok u) s.2) [
       | inl h ↦ let same : s.0 ≡ u = cc in (number-ok at token s.0 s.1 ∙ ap Number same, grind (arith, h.0, same))
       | inr h ↦ let no : fault OutOfRange at s.0 ≡ Ok u = h.1 in cc
     ]
 
-second_end-ok : (n u at : ℕ) (token : Token) (v : ℕ) → second_end n u at token ≡ Ok v → (token ≡ Number v) × (v < n) × (u ≢ v)
-unfolding second_end
+second_end-ok : (n u at : ℕ) (token : Token) (v : ℕ) → second_end_read n u at token ≡ Ok v → (token ≡ Number v) × (v < n) × (u ≢ v)
+unfolding second_end_read
 second_end-ok n u at token v e =
-    let s = ok-split (first_end n at token) (λ k. cond (nat_eq k u) (fault Loop at k) (Ok k)) v e in
+    let s = ok-split (first_end_read n at token) (λ k. cond (nat_eq k u) (fault Loop at k) (Ok k)) v e in
     let first = first_end-ok n at token s.0 s.1 in
     elim (test-split (nat_eq s.0 u) (fault Loop at s.0) (Ok s.0) (Ok v) s.2) [
       | inl h ↦ let no : fault Loop at s.0 ≡ Ok v = h.1 in cc
@@ -207,10 +208,10 @@ second_end-ok n u at token v e =
           (first.0 ∙ ap Number same, omega (arith, first.1, same), λ e. apart (same ∙ sym e))
     ]
 
-weight-ok : (at : ℕ) (token : Token) (w : ℕ) → weight at token ≡ Ok w → (token ≡ Number w) × (w ≤ 4294967295)
-unfolding weight
+weight-ok : (at : ℕ) (token : Token) (w : ℕ) → weight_read at token ≡ Ok w → (token ≡ Number w) × (w ≤ 4294967295)
+unfolding weight_read
 weight-ok at token w e =
-    let s = ok-split (number at token) (λ k. at_most 4294967295 at k) w e in
+    let s = ok-split (number_read at token) (λ k. within_limit 4294967295 at k) w e in
     let small = at_most-ok 4294967295 at s.0 w s.2 in
     (number-ok at token s.0 s.1 ∙ ap Number small.0, small.1)
 
@@ -225,21 +226,21 @@ abbrev weighed : ℕ → ℕ → ℕ × List PlacedToken → Result (Edge × Lis
 weighed u v w = Ok (record { u = u; v = v; w = w.0 }, w.1)
 
 abbrev ended_at : ℕ → ℕ → ℕ × List PlacedToken → Result (Edge × List PlacedToken) InputFault
-ended_at end u v = need end weight v.1 >>= weighed u v.0
+ended_at end u v = need end weight_read v.1 >>= weighed u v.0
 
 abbrev begun_at : ℕ → ℕ → ℕ × List PlacedToken → Result (Edge × List PlacedToken) InputFault
-begun_at n end u = need end (second_end n u.0) u.1 >>= ended_at end u.0
+begun_at n end u = need end (second_end_read n u.0) u.1 >>= ended_at end u.0
 
 edge-one-ok : (n end : ℕ) (ts : List PlacedToken) (x : Edge) (after : List PlacedToken) → edge n end ts ≡ Ok (x, after)
     → IsEdge n x × (map says ts ≡ edge_tokens x ++ map says after)
 unfolding edge
 edge-one-ok n end ts x after e =
-    let u = ok-split (need end (first_end n) ts) (begun_at n end) (x, after) e in
-    let v = ok-split (need end (second_end n u.0.0) u.0.1) (ended_at end u.0.0) (x, after) u.2 in
-    let w = ok-split (need end weight v.0.1) (weighed u.0.0 v.0.0) (x, after) v.2 in
-    let first = need-ok end (first_end n) ts u.0.0 u.0.1 u.1 in
-    let second = need-ok end (second_end n u.0.0) u.0.1 v.0.0 v.0.1 v.1 in
-    let third = need-ok end weight v.0.1 w.0.0 w.0.1 w.1 in
+    let u = ok-split (need end (first_end_read n) ts) (begun_at n end) (x, after) e in
+    let v = ok-split (need end (second_end_read n u.0.0) u.0.1) (ended_at end u.0.0) (x, after) u.2 in
+    let w = ok-split (need end weight_read v.0.1) (weighed u.0.0 v.0.0) (x, after) v.2 in
+    let first = need-ok end (first_end_read n) ts u.0.0 u.0.1 u.1 in
+    let second = need-ok end (second_end_read n u.0.0) u.0.1 v.0.0 v.0.1 v.1 in
+    let third = need-ok end weight_read v.0.1 w.0.0 w.0.1 w.1 in
     let a = first_end-ok n first.0.from first.0.token u.0.0 first.2 in
     let b = second_end-ok n u.0.0 second.0.from second.0.token v.0.0 second.2 in
     let c = weight-ok third.0.from third.0.token w.0.0 third.2 in

@@ -3,12 +3,13 @@ use Rattle.std.proofs.Common.{◌≡◌, ℕ, suc, ◌+◌, ◌-◌, ◌<◌, �
 use Rattle.std.specs.Prelude.{Ok, replicate, if◌then◌else◌}
 use Rattle.hg_base.specs.declared.graph.Edge.{Edge}
 use Rattle.hg_base.specs.declared.fault.FaultKind.TheVariants as kinds
-use Rattle.graph_reader.specs.declared.token.Token.{Token}
-use Rattle.graph_reader.specs.declared.token.Found.{Found}
+use Rattle.input_tokens.specs.declared.token.Token.{Token}
+use Rattle.input_tokens.specs.declared.token.Found.{Found}
 use Rattle.graph_reader.specs.declared.parser.Stage.TheVariants as stages
 use Rattle.graph_reader.specs.declared.parser.Parser.TheInside.{Inside}
 use Rattle.graph_reader.specs.ParserFields.{parsing_of, Keeps}
-use Rattle.graph_reader.specs.EdgeList.{◌>>=◌, fault, need, several, area, first_end, second_end, weight, edges, edge, whole}
+use Rattle.input_tokens.specs.Rules.{◌>>=◌, fault}
+use Rattle.graph_reader.specs.EdgeList.{need, several, area, first_end_read, second_end_read, weight_read, edges, edge, whole}
 use Rattle.graph_reader.specs.Parsing.{Takes, TakesThree, reading, reading_at, is_out_of_memory, settling}
 use Rattle.graph_reader.proofs.Chains.{areas-step, more_edges-step, several-missing}
 
@@ -33,7 +34,7 @@ takes-area with_areas n m a at known es token h ok = record {
 }
 
 pub takes-first_end : (with_areas : Bool) (n m u at : ℕ) (known : List ℕ) (es : List Edge) (token : Token)
-    → length es < m → first_end n at token ≡ Ok u
+    → length es < m → first_end_read n at token ≡ Ok u
     → Takes (record { stage = stages.FirstEnd; with_areas = with_areas; n = n; m = m; areas = known; edges = es })
     (record { stage = stages.SecondEnd u; with_areas = with_areas; n = n; m = m; areas = known; edges = es }) at token
 unfolding reading_at settling
@@ -45,7 +46,7 @@ takes-first_end with_areas n m u at known es token h ok = record {
   memory = λ counting. refl;
 }
 
-takes-second_end : (with_areas : Bool) (n m u v at : ℕ) (known : List ℕ) (es : List Edge) (token : Token) → second_end n u at token ≡ Ok v
+takes-second_end : (with_areas : Bool) (n m u v at : ℕ) (known : List ℕ) (es : List Edge) (token : Token) → second_end_read n u at token ≡ Ok v
     → Takes (record { stage = stages.SecondEnd u; with_areas = with_areas; n = n; m = m; areas = known; edges = es })
     (record { stage = stages.Weight u v; with_areas = with_areas; n = n; m = m; areas = known; edges = es }) at token
 unfolding reading_at settling
@@ -55,7 +56,7 @@ takes-second_end with_areas n m u v at known es token ok = record {
   memory = λ counting. refl;
 }
 
-takes-weight : (with_areas : Bool) (n m u v w at : ℕ) (known : List ℕ) (es : List Edge) (token : Token) → weight at token ≡ Ok w
+takes-weight : (with_areas : Bool) (n m u v w at : ℕ) (known : List ℕ) (es : List Edge) (token : Token) → weight_read at token ≡ Ok w
     → Takes (record { stage = stages.Weight u v; with_areas = with_areas; n = n; m = m; areas = known; edges = es })
     (record { stage = stages.FirstEnd; with_areas = with_areas; n = n; m = m; areas = known; edges = es ++ record { u = u; v = v; w = w } ∷ [] }) at token
 unfolding reading_at settling
@@ -69,7 +70,7 @@ takes-weight with_areas n m u v w at known es token ok =
 
 -- the three tokens of an edge
 pub takes-edge : (with_areas : Bool) (n m : ℕ) (known : List ℕ) (es : List Edge) (u v w : Found) (e : Edge)
-    → length es < m → first_end n u.at u.token ≡ Ok e.u → second_end n e.u v.at v.token ≡ Ok e.v → weight w.at w.token ≡ Ok e.w
+    → length es < m → first_end_read n u.at u.token ≡ Ok e.u → second_end_read n e.u v.at v.token ≡ Ok e.v → weight_read w.at w.token ≡ Ok e.w
     → TakesThree (record { stage = stages.FirstEnd; with_areas = with_areas; n = n; m = m; areas = known; edges = es })
     (record { stage = stages.FirstEnd; with_areas = with_areas; n = n; m = m; areas = known; edges = es ++ e ∷ [] }) u v w
 takes-edge with_areas n m known es u v w e left first second weighs = record {

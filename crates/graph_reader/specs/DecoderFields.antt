@@ -1,6 +1,6 @@
 -- What the fields of a decoder stand for.
 use Rattle.graph_reader.specs.declared.decoder.Decoder.TheInside.{Inside}
-use Rattle.graph_reader.specs.Lexing.{IsLexing}
+use Rattle.input_tokens.specs.Lexing.{IsLexing}
 use Rattle.graph_reader.specs.Progress.{Progress}
 
 abbrev pub progress_of : Inside → Progress

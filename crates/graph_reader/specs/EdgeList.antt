@@ -1,22 +1,13 @@
 -- The grammar of edge lists: one rule for each token, and the first fault from the left.
-use Rattle.std.specs.Prelude.{ℕ, zero, suc, Bool, true, false, ◌||◌, ◌==◌, nat_lt, if◌then◌else◌, List, [], ◌∷◌, length, replicate, Result, Ok, Err, is_err}
-use Rattle.std.specs.List.{filter}
+use Rattle.std.specs.Prelude.{ℕ, zero, suc, Bool, true, false, ◌||◌, ◌==◌, nat_lt, if◌then◌else◌, List, [], ◌∷◌, length, replicate, Result, Ok, is_err}
 use Rattle.hg_base.specs.Graph.{WeightedGraph}
 use Rattle.hg_base.specs.declared.graph.Edge.{Edge}
-use Rattle.hg_base.specs.declared.fault.FaultKind.{FaultKind}
-use Rattle.hg_base.specs.declared.fault.FaultKind.TheVariants.{UnknownForm, BadNumber, TooLarge, Truncated, Trailing, OutOfRange, Loop, NoVertex}
+use Rattle.hg_base.specs.declared.fault.FaultKind.TheVariants.{UnknownForm, BadNumber, Truncated, Trailing, OutOfRange, Loop, NoVertex}
 use Rattle.hg_base.specs.declared.fault.InputFault.{InputFault}
-use Rattle.graph_reader.specs.declared.token.Token.{Token}
-use Rattle.graph_reader.specs.declared.token.Token.TheVariants.{Graph, GraphWithAreas, Number, Other}
-use Rattle.graph_reader.specs.Tokens.{PlacedToken, tokens}
-
-infixl 10 ◌>>=◌
-abbrev pub ◌>>=◌ : {A B : Type 0} → Result A InputFault → (A → Result B InputFault) → Result B InputFault
-(Ok x) >>= f = f x
-(Err fault) >>= f = Err fault
-
-abbrev pub fault : {A : Type 0} → FaultKind → ℕ → ℕ → Result A InputFault
-fault kind at value = Err (record { kind = kind; at = at; value = value })
+use Rattle.input_tokens.specs.declared.token.Token.{Token}
+use Rattle.input_tokens.specs.declared.token.Token.TheVariants.{Graph, GraphWithAreas, Number, Other}
+use Rattle.input_tokens.specs.Tokens.{PlacedToken, tokens, ended}
+use Rattle.input_tokens.specs.Rules.{◌>>=◌, fault, number_read, within_limit}
 
 -- A rule says what a token at a place gives.
 
@@ -27,44 +18,35 @@ first_word at GraphWithAreas = Ok true
 first_word at (Number n) = fault UnknownForm at 0
 first_word at Other = fault UnknownForm at 0
 
-unfoldable pub number : ℕ → Token → Result ℕ InputFault
-number at (Number n) = Ok n
-number at Graph = fault BadNumber at 0
-number at GraphWithAreas = fault BadNumber at 0
-number at Other = fault BadNumber at 0
-
-abbrev pub at_most : ℕ → ℕ → ℕ → Result ℕ InputFault
-at_most limit at n = if nat_lt limit n then fault TooLarge at n else Ok n
-
 unfoldable pub vertices : ℕ → Token → Result ℕ InputFault
 vertices at token = do
-  n ← number at token
-  if n == 0 then fault NoVertex at 0 else at_most 1048576 at n
+  n ← number_read at token
+  if n == 0 then fault NoVertex at 0 else within_limit 1048576 at n
 
 unfoldable pub edges : ℕ → Token → Result ℕ InputFault
 edges at token = do
-  m ← number at token
-  at_most 4194304 at m
+  m ← number_read at token
+  within_limit 4194304 at m
 
 unfoldable pub area : ℕ → Token → Result ℕ InputFault
 area at token = do
-  a ← number at token
-  if a == 0 then fault BadNumber at 0 else at_most 4096 at a
+  a ← number_read at token
+  if a == 0 then fault BadNumber at 0 else within_limit 4096 at a
 
-unfoldable pub first_end : ℕ → ℕ → Token → Result ℕ InputFault
-first_end n at token = do
-  u ← number at token
+unfoldable pub first_end_read : ℕ → ℕ → Token → Result ℕ InputFault
+first_end_read n at token = do
+  u ← number_read at token
   if nat_lt u n then Ok u else fault OutOfRange at u
 
-unfoldable pub second_end : ℕ → ℕ → ℕ → Token → Result ℕ InputFault
-second_end n u at token = do
-  v ← first_end n at token
+unfoldable pub second_end_read : ℕ → ℕ → ℕ → Token → Result ℕ InputFault
+second_end_read n u at token = do
+  v ← first_end_read n at token
   if v == u then fault Loop at v else Ok v
 
-unfoldable pub weight : ℕ → Token → Result ℕ InputFault
-weight at token = do
-  w ← number at token
-  at_most 4294967295 at w
+unfoldable pub weight_read : ℕ → Token → Result ℕ InputFault
+weight_read at token = do
+  w ← number_read at token
+  within_limit 4294967295 at w
 
 -- the next token by its rule, and the tokens after it; missing is the fault where there is none
 abbrev pub next : {A : Type 0} → Result (A × List PlacedToken) InputFault → (ℕ → Token → Result A InputFault) → List PlacedToken → Result (A × List PlacedToken) InputFault
@@ -87,9 +69,9 @@ several (suc k) one ts = do
 
 unfoldable pub edge : ℕ → ℕ → List PlacedToken → Result (Edge × List PlacedToken) InputFault
 edge n end ts = do
-  u ← need end (first_end n) ts
-  v ← need end (second_end n u.0) u.1
-  w ← need end weight v.1
+  u ← need end (first_end_read n) ts
+  v ← need end (second_end_read n u.0) u.1
+  w ← need end weight_read v.1
   Ok (record { u = u.0; v = v.0; w = w.0 }, w.1)
 
 -- the areas where they are given, or 1 for each vertex
@@ -123,10 +105,6 @@ settle [] = false
 settle (word ∷ []) = is_err (first_word word.from word.token)
 settle (word ∷ n ∷ []) = is_err (first_word word.from word.token) || is_err (vertices n.from n.token)
 settle (word ∷ n ∷ m ∷ ts) = true
-
--- the tokens that have ended: a byte stands behind them
-abbrev pub ended : ℕ → List PlacedToken → List PlacedToken
-ended end ts = filter (λ t. nat_lt t.to end) ts
 
 -- whether the ended tokens of these bytes settle how much memory the graph takes
 unfoldable pub settles : List ℕ → Bool

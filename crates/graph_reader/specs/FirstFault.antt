@@ -1,14 +1,9 @@
 -- The first fault from the left: what stands before it is right, and what follows it changes nothing.
-use Rattle.std.specs.Prelude.{◌≡◌, ◌≢◌, ◌⊎◌, ◌||◌, ◌==◌, ℕ, ◌≤◌, true, List, [], ◌∷◌, ◌++◌, length, take, Err, Contains}
+use Rattle.std.specs.Prelude.{◌≡◌, ◌≢◌, ◌⊎◌, ℕ, ◌≤◌, true, List, [], ◌++◌, length, take, Err, Contains}
 use Rattle.hg_base.specs.declared.fault.FaultKind.TheVariants.{UnknownForm, Truncated}
 use Rattle.hg_base.specs.declared.fault.InputFault.{InputFault}
-use Rattle.graph_reader.specs.Tokens.{PlacedToken, is_space, tokens}
+use Rattle.input_tokens.specs.Tokens.{PlacedToken, tokens, goes_on_apart}
 use Rattle.graph_reader.specs.EdgeList.{edge_list}
-
--- a token right before these bytes has ended: they are none, or begin with white space or a comment
-abbrev pub EndsToken : List ℕ → Type 0
-EndsToken [] = Unit {0}
-EndsToken (b ∷ bs) = (is_space b || (b == 35)) ≡ true
 
 -- these bytes have no fault but that they end
 abbrev pub IsRightSoFar : List ℕ → Type 0
@@ -23,7 +18,7 @@ pub record IsFirstWrong (bytes : List ℕ) (t : PlacedToken) (f : InputFault) : 
   pub token : Contains (tokens bytes) t
   pub place : f.at ≡ t.from
   pub right_before : IsRightBefore t.from bytes
-  pub whatever_follows : (rest : List ℕ) → EndsToken rest → edge_list (take t.to bytes ++ rest) ≡ Err f
+  pub whatever_follows : (rest : List ℕ) → goes_on_apart rest ≡ true → edge_list (take t.to bytes ++ rest) ≡ Err f
   pub not_missing : f.kind ≢ Truncated
 
 -- every token is right, and the bytes end where another one is wanted

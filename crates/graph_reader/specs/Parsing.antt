@@ -4,12 +4,13 @@ use Rattle.hg_base.specs.Graph.{WeightedGraph, JoinsTwo}
 use Rattle.hg_base.specs.declared.graph.Edge.{Edge}
 use Rattle.hg_base.specs.declared.fault.FaultKind.TheVariants as kinds
 use Rattle.hg_base.specs.declared.fault.InputFault.{InputFault}
-use Rattle.graph_reader.specs.declared.token.Token.{Token}
-use Rattle.graph_reader.specs.declared.token.Found.{Found}
+use Rattle.input_tokens.specs.declared.token.Token.{Token}
+use Rattle.input_tokens.specs.declared.token.Found.{Found}
 use Rattle.graph_reader.specs.declared.parser.Stage.{Stage}
 use Rattle.graph_reader.specs.declared.parser.Stage.TheVariants as stages
-use Rattle.graph_reader.specs.Tokens.{PlacedToken}
-use Rattle.graph_reader.specs.EdgeList.{◌>>=◌, fault, need, several, vertices, edges, area, first_end, second_end, weight, edge, areas, whole, graph, settle}
+use Rattle.input_tokens.specs.Tokens.{PlacedToken}
+use Rattle.input_tokens.specs.Rules.{◌>>=◌, fault}
+use Rattle.graph_reader.specs.EdgeList.{need, several, vertices, edges, area, first_end_read, second_end_read, weight_read, edge, areas, whole, graph, settle}
 
 -- what has been read of an edge list; the numbers and lists mean something from the stage on that reads them
 pub record Parsing : Type 0 where
@@ -70,11 +71,11 @@ reading_at stages.Area p end ts = do
   whole (record { n = p.n; areas = p.areas ++ a.0; edges = e.0 }) e.1
 reading_at stages.FirstEnd p end ts = more_edges (graph_so_far p) (p.m - length p.edges) end ts
 reading_at (stages.SecondEnd u) p end ts = do
-  v ← need end (second_end p.n u) ts
-  w ← need end weight v.1
+  v ← need end (second_end_read p.n u) ts
+  w ← need end weight_read v.1
   more_edges (with_edge p u v.0 w.0) (p.m - (length p.edges + 1)) end w.1
 reading_at (stages.Weight u v) p end ts = do
-  w ← need end weight ts
+  w ← need end weight_read ts
   more_edges (with_edge p u v w.0) (p.m - (length p.edges + 1)) end w.1
 reading_at (stages.Faulty f) p end ts = Err f
 reading_at stages.OutOfMemory p end ts = fault kinds.Truncated end 0
@@ -111,9 +112,9 @@ pub record IsNextEdge (p : Parsing) (u v w : Found) (e : Edge) : Type 0 where
   pub stage : p.stage ≡ stages.FirstEnd
   pub left : length p.edges < p.m
   pub joins : JoinsTwo p.n e
-  pub first : first_end p.n u.at u.token ≡ Ok e.u
-  pub second : second_end p.n e.u v.at v.token ≡ Ok e.v
-  pub weighs : weight w.at w.token ≡ Ok e.w
+  pub first : first_end_read p.n u.at u.token ≡ Ok e.u
+  pub second : second_end_read p.n e.u v.at v.token ≡ Ok e.v
+  pub weighs : weight_read w.at w.token ≡ Ok e.w
 
 -- memory was taken for m edges, and for the areas where they are given; or there was none
 abbrev pub TakesRoom : Parsing → Parsing → ℕ → Type 0

@@ -1,14 +1,14 @@
 -- What a decoder has read, said by what is still to come.
-use Rattle.std.specs.Prelude.{◌≡◌, ℕ, ◌+◌, Bool, false, List, [], ◌++◌, length, Result, Ok, Err}
+use Rattle.std.specs.Prelude.{ℕ, ◌+◌, Bool, List, [], length, Result}
 use Rattle.hg_base.specs.Graph.{WeightedGraph}
 use Rattle.hg_base.specs.declared.fault.InputFault.{InputFault}
-use Rattle.hg_base.specs.declared.fault.ReadError.{ReadError}
-use Rattle.hg_base.specs.declared.fault.ReadError.TheVariants as errors
-use Rattle.graph_reader.specs.declared.lexer.Lexer.{Lexer}
-use Rattle.graph_reader.specs.Lexing.{lexed}
+use Rattle.input_tokens.specs.declared.lexer.Lexer.{Lexer}
+use Rattle.input_tokens.specs.Lexing.{lexed}
 use Rattle.graph_reader.specs.Parsing as parsing
 use Rattle.graph_reader.specs.Parsing.{Parsing}
-use Rattle.graph_reader.specs.EdgeList.{edge_list, ended, settles}
+use Rattle.input_tokens.specs.Progress.{Onward, ReadsOnFrom}
+use Rattle.graph_reader.specs.EdgeList.{edge_list, settles}
+use Rattle.input_tokens.specs.Tokens.{ended}
 
 -- a decoder as contracts see it: the number of bytes that were fed, and how far the reading has come
 pub record Progress : Type 0 where
@@ -40,14 +40,10 @@ settles_with d rest = parsing.settling d.parsing.stage (ended (d.taken + length 
 abbrev pub is_sized : Progress → Bool
 is_sized d = parsing.settling d.parsing.stage []
 
--- The decoder has read these bytes: whatever follows, reading on from it is reading them and what follows.
-pub record HasRead (d : Progress) (bytes : List ℕ) : Type 0 where
-  pub taken : d.taken ≡ length bytes
-  pub reading : is_out_of_memory d ≡ false → (rest : List ℕ) → reading_on d rest ≡ edge_list (bytes ++ rest)
-  pub settling : (rest : List ℕ) → settles_with d rest ≡ settles (bytes ++ rest)
+-- how the decoder goes on
+abbrev pub onward : Progress → Onward WeightedGraph
+onward d = record { taken = d.taken; out_of_memory = is_out_of_memory d; reading = reading_on d; settling = settles_with d }
 
--- an answer is the graph or the fault that was read, unless memory ran out
-abbrev pub Answers : Result WeightedGraph ReadError → Result WeightedGraph InputFault → Type 0
-Answers (Ok g) read = read ≡ Ok g
-Answers (Err (errors.Fault fault)) read = read ≡ Err fault
-Answers (Err errors.OutOfMemory) read = Unit {0}
+-- The decoder has read these bytes: whatever follows, reading on from it is reading them and what follows.
+abbrev pub HasRead : Progress → List ℕ → Type 0
+HasRead d bytes = ReadsOnFrom edge_list settles bytes (onward d)

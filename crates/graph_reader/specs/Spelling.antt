@@ -3,9 +3,9 @@ use Rattle.std.specs.Prelude.{◌≡◌, ℕ, ◌≤◌, Bool, true, false, List
 use Rattle.std.specs.List.{flat_map, AllByRecursion}
 use Rattle.hg_base.specs.Graph.{WeightedGraph, JoinsTwo}
 use Rattle.hg_base.specs.declared.graph.Edge.{Edge}
-use Rattle.graph_reader.specs.declared.token.Token.{Token}
-use Rattle.graph_reader.specs.declared.token.Token.TheVariants.{Graph, GraphWithAreas, Number}
-use Rattle.graph_reader.specs.Tokens.{tokens}
+use Rattle.input_tokens.specs.declared.token.Token.{Token}
+use Rattle.input_tokens.specs.declared.token.Token.TheVariants.{Graph, GraphWithAreas, Number}
+use Rattle.input_tokens.specs.Tokens.{tokens}
 
 -- two ends and a weight
 abbrev pub edge_tokens : Edge → List Token

@@ -1,12 +1,13 @@
 ghost use Rattle.std.specs.Prelude.{◌≡◌, ◌+◌, ◌<◌, ◌≤◌, ◌↔◌, ℕ, List, [], ◌∷◌, ◌++◌, length, take, IsTrue, IsFalse, IfOk, Err, is_err};
 ghost use Rattle.graph_reader.specs.EdgeList.{edge_list, settles};
-ghost use Rattle.graph_reader.specs.Lexing.{IsLexing};
+ghost use Rattle.input_tokens.specs.Lexing.{IsLexing};
 ghost use Rattle.graph_reader.specs.Parsing.{KeepsMemory};
-ghost use Rattle.graph_reader.specs.Progress.{HasRead, Answers, is_over, with_more, is_out_of_memory, is_sized};
+ghost use Rattle.input_tokens.specs.Progress.{Answers};
+ghost use Rattle.graph_reader.specs.Progress.{HasRead, is_over, with_more, is_out_of_memory, is_sized};
 
-use crate::lexer::Lexer;
 use crate::parser::Parser;
 use hg_base::{Graph, OutOfMemory, ReadError};
+use input_tokens::Lexer;
 use std::alloc::Global;
 use std::marker::Model;
 

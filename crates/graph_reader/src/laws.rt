@@ -1,12 +1,12 @@
-ghost use Rattle.std.specs.Prelude.{◌≡◌, ◌⊎◌, ◌<◌, ◌≤◌, ℕ, Bool, List, ◌∷◌, ◌++◌, take, Ok, Err, Contains};
+ghost use Rattle.std.specs.Prelude.{◌≡◌, ◌⊎◌, ◌<◌, ℕ, Bool, List, ◌∷◌, take, Ok, Err, Contains};
 ghost use Rattle.hg_base.specs.Graph.{WeightedGraph};
 ghost use Rattle.hg_base.specs.declared.fault.FaultKind.TheVariants.{UnknownForm};
 ghost use Rattle.hg_base.specs.declared.fault.InputFault.{InputFault};
-ghost use Rattle.graph_reader.specs.Tokens.{PlacedToken, tokens};
-ghost use Rattle.graph_reader.specs.EdgeList.{edge_list, fault};
+ghost use Rattle.input_tokens.specs.Tokens.{PlacedToken, tokens};
+ghost use Rattle.graph_reader.specs.EdgeList.{edge_list};
+ghost use Rattle.input_tokens.specs.Rules.{fault};
 ghost use Rattle.graph_reader.specs.Spelling.{Spells};
 ghost use Rattle.graph_reader.specs.FirstFault.{IsFirstWrong, EndsTooEarly};
-ghost use Rattle.graph_reader.specs.LongestRuns.{IsTokenByte, IsLongestRun};
 
 /// What begins with `P`, as each picture does, is no edge list: its form is unknown, at 0.
 pub fn pictures_are_no_edge_lists()
@@ -25,12 +25,4 @@ pub fn edge_lists_are_spellings()
 pub fn faults_are_the_first()
     ensures found { (bytes : List ℕ) (f : InputFault) → edge_list bytes ≡ Err f → ((t : PlacedToken) × IsFirstWrong bytes t f) ⊎ EndsTooEarly bytes f }
     ensures kept { (bytes : List ℕ) (t : PlacedToken) (f : InputFault) → Contains (tokens bytes) t → edge_list (take t.to bytes) ≡ Err f → f.at < t.to → edge_list bytes ≡ Err f }
-{}
-
-/// The tokens are the longest runs of bytes that are neither white space nor covered by a comment: each token is one,
-/// each such byte is in one, and they stand in order, with a byte that isn't of a token between each two.
-pub fn tokens_are_longest_runs()
-    ensures runs { (bytes : List ℕ) (t : PlacedToken) → Contains (tokens bytes) t → IsLongestRun bytes t }
-    ensures all { (bytes : List ℕ) (place : ℕ) → IsTokenByte bytes place → (t : PlacedToken) × Contains (tokens bytes) t × (t.from ≤ place) × (place < t.to) }
-    ensures in_order { (bytes : List ℕ) (front : List PlacedToken) (t u : PlacedToken) (back : List PlacedToken) → tokens bytes ≡ front ++ t ∷ u ∷ back → t.to < u.from }
 {}

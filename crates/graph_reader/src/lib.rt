@@ -3,16 +3,11 @@
 
 mod decoder;
 mod laws;
-mod lexer;
 mod parser;
 mod rules;
-mod token;
 
 pub use decoder::{Decoder, read_graph};
-pub use laws::{
-    edge_lists_are_spellings, faults_are_the_first, pictures_are_no_edge_lists,
-    tokens_are_longest_runs,
-};
+pub use laws::{edge_lists_are_spellings, faults_are_the_first, pictures_are_no_edge_lists};
 
 #[cfg(test)]
 mod tests;

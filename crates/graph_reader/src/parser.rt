@@ -2,11 +2,11 @@
 
 ghost use Rattle.std.specs.Prelude.{◌≡◌, ◌≢◌, ◌<◌, ◌≤◌, ◌↔◌, ◌⊎◌, ℕ, List, [], ◌∷◌, true, false, length, IsTrue, IfSome, Err};
 ghost use Rattle.graph_reader.specs.Parsing.{Takes, TakesThree, IsNextEdge, TakesRoom, reading, is_over, is_out_of_memory, settling, graph_so_far};
-ghost use Rattle.graph_reader.specs.Progress.{Answers};
+ghost use Rattle.input_tokens.specs.Progress.{Answers};
 
 use crate::rules;
-use crate::token::{Found, Token};
 use hg_base::{Edge, FaultKind, Graph, InputFault, ReadError};
+use input_tokens::{Found, Token, truncated};
 use std::alloc::Global;
 use std::marker::Model;
 
@@ -50,16 +50,6 @@ impl Model for Parser {
     ghost view = { parsing_of };
 
     ghost invariant = { Keeps };
-}
-
-fn truncated(end: u64) -> ReadError
-    ensures { result ≡ ReadError.Fault (record { kind = FaultKind.Truncated; at = end; value = 0 }) }
-{
-    ReadError::Fault(InputFault {
-        kind: FaultKind::Truncated,
-        at: end,
-        value: 0,
-    })
 }
 
 impl Parser {
@@ -114,13 +104,13 @@ impl Parser {
         if !self.is_at_edge() {
             return None;
         }
-        let Ok(first) = rules::first_end(self.n, u.at, u.token) else {
+        let Ok(first) = rules::first_end_read(self.n, u.at, u.token) else {
             return None;
         };
-        let Ok(second) = rules::second_end(self.n, first, v.at, v.token) else {
+        let Ok(second) = rules::second_end_read(self.n, first, v.at, v.token) else {
             return None;
         };
-        let Ok(weight) = rules::weight(w.at, w.token) else {
+        let Ok(weight) = rules::weight_read(w.at, w.token) else {
             return None;
         };
         Some(Edge {
@@ -227,7 +217,7 @@ impl Parser {
             });
             return;
         }
-        match rules::first_end(self.n, at, token) {
+        match rules::first_end_read(self.n, at, token) {
             Ok(u) => self.stage = Stage::SecondEnd(u),
             Err(fault) => self.stage = Stage::Faulty(fault),
         }
@@ -237,7 +227,7 @@ impl Parser {
         requires { self.old.stage ≡ Stage.SecondEnd u }
         ensures { Takes self.old self.new at token }
     {
-        match rules::second_end(self.n, u, at, token) {
+        match rules::second_end_read(self.n, u, at, token) {
             Ok(v) => self.stage = Stage::Weight(u, v),
             Err(fault) => self.stage = Stage::Faulty(fault),
         }
@@ -247,7 +237,7 @@ impl Parser {
         requires { self.old.stage ≡ Stage.Weight u v }
         ensures { Takes self.old self.new at token }
     {
-        match rules::weight(at, token) {
+        match rules::weight_read(at, token) {
             Ok(w) => {
                 self.edges.push_reserved(Edge { u, v, w });
                 self.stage = Stage::FirstEnd;

@@ -6,15 +6,16 @@ use Rattle.std.proofs.lemmas.List.{take-append-drop, length-take-le, take_all}
 use Rattle.std.proofs.lemmas.List.Elements.{All-tail}
 use Rattle.hg_base.specs.declared.fault.FaultKind.TheVariants.{BadNumber, TooLarge, Truncated, Trailing, NoVertex, SampleAboveMax}
 use Rattle.hg_base.specs.declared.fault.InputFault.{InputFault}
-use Rattle.graph_reader.specs.Tokens.{blanked}
-use Rattle.graph_reader.specs.EdgeList.{◌>>=◌, fault, at_most}
-use Rattle.graph_reader.proofs.LeftToRight.{FaultsAt, at-ok, at-fault, at-then, at-either, at-most}
+use Rattle.input_tokens.specs.Tokens.{blanked}
+use Rattle.input_tokens.specs.Rules.{◌>>=◌, fault, within_limit, number_read}
+use Rattle.input_tokens.proofs.PlacedFaults.{FaultsAt, at-ok, at-fault, at-then, at-either, at-most, IsRule, rule-number}
+use Rattle.input_tokens.specs.declared.token.Token.{Token}
 use Rattle.pgm_reader.specs.Raster.{Raster}
-use Rattle.pgm_reader.specs.Pgm.{CutToken, cut, token_at, gap, number, width, height, greatest, samples, pixels, from_width, from_height, from_greatest, picture}
-use Rattle.pgm_reader.specs.FirstFault.{where_right, tokens_from, greatest_tokens, height_tokens, header, IsBeside, PartsNone, missing, IsFirst}
+use Rattle.pgm_reader.specs.Pgm.{CutToken, cut, token_cut_at, gap, width, height, greatest, samples, pixels, from_width, from_height, from_greatest, picture}
+use Rattle.pgm_reader.specs.FirstFault.{where_right, right_tokens, greatest_tokens, height_tokens, header, IsBeside, PartsNone, missing, IsFirst}
 use Rattle.pgm_reader.proofs.Samples.{samples-one, samples-two, judged}
 use Rattle.pgm_reader.proofs.Endings.{sample-cut}
-use Rattle.pgm_reader.proofs.Onward.{with_rest, is-cut}
+use Rattle.pgm_reader.proofs.CutTokens.{with_rest, is-cut}
 
 -- the bytes up to this place have a fault there, and so has the whole where no token is parted
 record Finds {A : Type 0} (place : ℕ) (apart : Type 0) (short whole : Result A InputFault) : Type 0 where
@@ -96,47 +97,38 @@ pixels-goes apart upto end w h max place (b ∷ ys) rest e =
     (λ greys. let r : Raster = record { width = w; height = h; max = max; samples = greys } in r)
     (samples-goes apart upto end max (w * h) (place + 1) ys rest (omega (arith, e)))
 
--- a rule's faults stand at the token that it is for
-abbrev IsRule : (ℕ → Option ℕ → Result ℕ InputFault) → Type 0
-IsRule rule = (at : ℕ) (token : Option ℕ) → FaultsAt at (rule at token)
-
-rule-number : IsRule number
-unfolding number
-rule-number at (Some n) = at-ok at n
-rule-number at None = at-fault BadNumber at 0 (λ e. cc)
-
 rule-width : IsRule width
 unfolding width
-rule-width at token = at-then at (number at token) (λ n. if n == 0 then fault NoVertex at 0 else at_most 1048576 at n) (rule-number at token)
-    (λ n. at-either at (n == 0) (fault NoVertex at 0) (at_most 1048576 at n) (at-fault NoVertex at 0 (λ e. cc)) (at-most 1048576 at n))
+rule-width at token = at-then at (number_read at token) (λ n. if n == 0 then fault NoVertex at 0 else within_limit 1048576 at n) (rule-number at token)
+    (λ n. at-either at (n == 0) (fault NoVertex at 0) (within_limit 1048576 at n) (at-fault NoVertex at 0 (λ e. cc)) (at-most 1048576 at n))
 
 rule-height : (w : ℕ) → IsRule (height w)
 unfolding height
 rule-height w at token =
-    at-then at (number at token) (λ n. if n == 0 then fault NoVertex at 0 else (if nat_lt 1048576 (w * n) then fault TooLarge at (w * n) else Ok n)) (rule-number at token)
+    at-then at (number_read at token) (λ n. if n == 0 then fault NoVertex at 0 else (if nat_lt 1048576 (w * n) then fault TooLarge at (w * n) else Ok n)) (rule-number at token)
     (λ n. at-either at (n == 0) (fault NoVertex at 0) (if nat_lt 1048576 (w * n) then fault TooLarge at (w * n) else Ok n) (at-fault NoVertex at 0 (λ e. cc))
     (at-either at (nat_lt 1048576 (w * n)) (fault TooLarge at (w * n)) (Ok n) (at-fault TooLarge at (w * n) (λ e. cc)) (at-ok at n)))
 
 rule-greatest : IsRule greatest
 unfolding greatest
-rule-greatest at token = at-then at (number at token) (λ n. if n == 0 then fault BadNumber at 0 else at_most 65535 at n) (rule-number at token)
-    (λ n. at-either at (n == 0) (fault BadNumber at 0) (at_most 65535 at n) (at-fault BadNumber at 0 (λ e. cc)) (at-most 65535 at n))
+rule-greatest at token = at-then at (number_read at token) (λ n. if n == 0 then fault BadNumber at 0 else within_limit 65535 at n) (rule-number at token)
+    (λ n. at-either at (n == 0) (fault BadNumber at 0) (within_limit 65535 at n) (at-fault BadNumber at 0 (λ e. cc)) (at-most 65535 at n))
 
 -- what comes after a token that a rule accepts, from this place on, in an input with this end: number, end, place, bytes
 abbrev Next : Type 0
 Next = ℕ → ℕ → ℕ → List ℕ → Result Raster InputFault
 
 -- what a token and the bytes behind it give
-abbrev read_token : (ℕ → Option ℕ → Result ℕ InputFault) → Next → ℕ → Option CutToken → Result Raster InputFault
+abbrev read_token : (ℕ → Token → Result ℕ InputFault) → Next → ℕ → Option CutToken → Result Raster InputFault
 read_token rule next end None = fault Truncated end 0
-read_token rule next end (Some t) = rule t.from t.number >>= λ n. next n end t.to t.rest
+read_token rule next end (Some t) = rule t.from t.token >>= λ n. next n end t.to t.rest
 
 -- the tokens that are read behind a token: number, place, bytes
 abbrev Behind : Type 0
 Behind = ℕ → ℕ → List ℕ → List CutToken
 
-abbrev Apart : ℕ → (ℕ → Option ℕ → Result ℕ InputFault) → Behind → Option CutToken → Type 0
-Apart place rule behind token = All (IsBeside place) (tokens_from rule behind token)
+abbrev Apart : ℕ → (ℕ → Token → Result ℕ InputFault) → Behind → Option CutToken → Type 0
+Apart place rule behind token = All (IsBeside place) (right_tokens rule behind token)
 
 -- what follows a token goes so too
 abbrev GoesBehind : ℕ → ℕ → Next → Behind → List ℕ → Type 0
@@ -145,15 +137,15 @@ GoesBehind upto end next behind rest =
     → Goes upto (All (IsBeside upto) (behind n place (ys ++ rest))) (next n upto place ys) (next n end place (ys ++ rest))
 
 -- where no token is parted, the token of the whole is the same
-same-token : (upto : ℕ) (rule : ℕ → Option ℕ → Result ℕ InputFault) (behind : Behind) (t u : CutToken) (more : List ℕ) → t.from < upto → u.from ≡ t.from
+same-token : (upto : ℕ) (rule : ℕ → Token → Result ℕ InputFault) (behind : Behind) (t u : CutToken) (more : List ℕ) → t.from < upto → u.from ≡ t.from
     → (u.to ≤ upto → u ≡ with_rest t more) → Apart upto rule behind (Some u) → u ≡ with_rest t more
 same-token upto rule behind t u more below from onward apart = elim (apart 0 u (omega arith)) [
   | inl above ↦ absurd (omega (arith, above, from, below))
   | inr ended ↦ onward ended
 ]
 
-goes-rule : (rule : ℕ → Option ℕ → Result ℕ InputFault) (next : Next) (behind : Behind) (upto end : ℕ) (t u : CutToken) (rest : List ℕ) (r : Result ℕ InputFault)
-    → rule t.from t.number ≡ r → FaultsAt t.from r → t.from < upto
+goes-rule : (rule : ℕ → Token → Result ℕ InputFault) (next : Next) (behind : Behind) (upto end : ℕ) (t u : CutToken) (rest : List ℕ) (r : Result ℕ InputFault)
+    → rule t.from t.token ≡ r → FaultsAt t.from r → t.from < upto
     → (Apart upto rule behind (Some u) → u ≡ with_rest t (t.rest ++ rest))
     → t.to + length t.rest ≡ upto → GoesBehind upto end next behind rest
     → Goes upto (Apart upto rule behind (Some u)) (read_token rule next upto (Some t)) (read_token rule next end (Some u))
@@ -171,13 +163,13 @@ goes-rule rule next behind upto end t u rest (Ok n) e faults below same left goe
     (next n upto t.to t.rest) (next n end t.to (t.rest ++ rest)) _ _ (rw e refl)
     (λ apart.
     let is = same apart in
-    let beside : All (IsBeside upto) (with_rest t (t.rest ++ rest) ∷ where_right (rule t.from t.number) (λ k. behind k t.to (t.rest ++ rest))) =
+    let beside : All (IsBeside upto) (with_rest t (t.rest ++ rest) ∷ where_right (rule t.from t.token) (λ k. behind k t.to (t.rest ++ rest))) =
     subst (λ (s : CutToken). Apart upto rule behind (Some s)) is apart
     in
     (All-tail (IsBeside upto) (with_rest t (t.rest ++ rest)) (behind n t.to (t.rest ++ rest)) (rw e at beside), ap (λ (s : CutToken). read_token rule next end (Some s)) is ∙ rw e refl))
     (goes n t.to t.rest left)
 
-goes-token : (hash : Bool) (rule : ℕ → Option ℕ → Result ℕ InputFault) (next : Next) (behind : Behind) (upto end place : ℕ) (ys rest : List ℕ)
+goes-token : (hash : Bool) (rule : ℕ → Token → Result ℕ InputFault) (next : Next) (behind : Behind) (upto end place : ℕ) (ys rest : List ℕ)
     → IsRule rule → place + length ys ≡ upto → GoesBehind upto end next behind rest
     → Goes upto (Apart upto rule behind (cut hash false place (ys ++ rest)))
     (read_token rule next upto (cut hash false place ys)) (read_token rule next end (cut hash false place (ys ++ rest)))
@@ -191,7 +183,7 @@ goes-token hash rule next behind upto end place ys rest is long goes = by-token 
         let c = is-cut hash place ys t e in
         let u = c.onward rest in
         let below : t.from < upto = omega (arith, c.below, long) in
-        rw (e, u.1) (goes-rule rule next behind upto end t u.0 rest (rule t.from t.number) refl (is t.from t.number) below
+        rw (e, u.1) (goes-rule rule next behind upto end t u.0 rest (rule t.from t.token) refl (is t.from t.token) below
         (same-token upto rule behind t u.0 (t.rest ++ rest) below u.2 (λ ended. u.3 (omega (arith, ended, long))))
         (omega (arith, c.left, long)) goes)
 
@@ -228,7 +220,7 @@ goes-behind-width upto end rest w place ys long =
     (goes-token true (height w) (behind_height w) greatest_tokens upto end place ys rest (rule-height w) long (goes-behind-height upto end w rest))
 
 nothing-read : (end : ℕ) → from_width end (cut true false 2 []) ≡ fault Truncated end 0
-unfolding from_width cut token_at gap blanked
+unfolding from_width cut token_cut_at gap blanked
 nothing-read end = refl
 
 goes-picture : (bytes rest : List ℕ) → Goes (length bytes) (PartsNone (length bytes) (bytes ++ rest)) (picture bytes) (picture (bytes ++ rest))

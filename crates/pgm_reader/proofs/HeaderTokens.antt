@@ -1,18 +1,15 @@
 -- The tokens of a header are cut as those of an edge list are.
-use Rattle.std.proofs.Common.{◌≡◌, ◌≢◌, ℕ, ◌+◌, Bool, true, false, not, ◌&&◌, ◌||◌, List, [], ◌∷◌, length, refl, sym, ap, ◌∙◌, subst, inl, inr, add-zero}
-use Rattle.std.specs.Prelude.{Some, None, codes, bytes_eq, ◌==◌, if◌then◌else◌}
+use Rattle.std.proofs.Common.{◌≡◌, ◌≢◌, ℕ, ◌+◌, Bool, true, false, not, ◌&&◌, ◌||◌, List, [], ◌∷◌, length, refl, sym, ap, ◌∙◌, inl, inr, add-zero}
+use Rattle.std.specs.Prelude.{◌==◌}
 use Rattle.std.specs.List.{before_first}
 use Rattle.std.proofs.lemmas.Bool.{cases_Bool}
-use Rattle.std.proofs.lemmas.Slice.Eq.{bytes_eq-Decides}
-use Rattle.graph_reader.specs.declared.token.Token.TheVariants.{Number, Other}
-use Rattle.graph_reader.specs.Tokens.{is_space, is_line_end, blanked, word, is_number, decimal, meaning, tokens_from}
-use Rattle.graph_reader.proofs.Steps.{word-space, word-other, tokens-space, tokens-begin, blanked-hash, blanked-other}
-use Rattle.graph_reader.proofs.Comments.{none, hash-is, hash-not, line-end-no, blanked-open, blanked-shut}
-use Rattle.pgm_reader.specs.Pgm as pgm
-use Rattle.pgm_reader.specs.Pgm.{CutToken, number_of, ends_token, gap, cut}
-use Rattle.pgm_reader.specs.HeaderTokens.{number_said, IsFirstOf}
-use Rattle.pgm_reader.proofs.Cuts.{gap-more, cut-more, text-ends, text-more, ends-not}
-use Rattle.pgm_reader.proofs.Onward.{gap-stops}
+use Rattle.input_tokens.specs.Tokens.{is_space, is_line_end, blanked, word, meaning, tokens_from}
+use Rattle.input_tokens.proofs.ByteByByte.{word-space, word-other, tokens-space, tokens-begin, blanked-hash, blanked-other}
+use Rattle.input_tokens.proofs.Comments.{none, hash-is, hash-not, line-end-no, blanked-open, blanked-shut}
+use Rattle.pgm_reader.specs.Pgm.{ends_token, gap, cut, token_cut_at}
+use Rattle.pgm_reader.specs.HeaderTokens.{IsFirstOf}
+use Rattle.pgm_reader.proofs.NextToken.{gap-more, cut-more, text-ends, text-more, ends-not}
+use Rattle.pgm_reader.proofs.CutTokens.{gap-stops}
 
 -- a text that white space or a `#` ends is a word once comments are blanked
 text-is-word : (bs : List ℕ) → before_first (ends_token true) bs ≡ word (blanked false bs)
@@ -31,25 +28,10 @@ text-is-word (b ∷ bs) = elim (cases_Bool (is_space b)) [
   ]
 ]
 
--- a token says the number that its text spells
-said : (text : List ℕ) → number_said (meaning text) ≡ number_of text
-unfolding meaning
-said text = elim (cases_Bool (bytes_eq text (codes "graph"))) [
-  | inl e ↦ subst (λ (w : List ℕ). number_said (meaning w) ≡ number_of w) (sym ((bytes_eq-Decides text (codes "graph")).0 e)) refl
-  | inr e ↦ elim (cases_Bool (bytes_eq text (codes "graph2"))) [
-    | inl f ↦ subst (λ (w : List ℕ). number_said (meaning w) ≡ number_of w) (sym ((bytes_eq-Decides text (codes "graph2")).0 f)) refl
-    | inr f ↦ rw (e, f) (by (is_number text) (decimal text))
-  ]
-]
-  where
-    by : (is : Bool) (n : ℕ) → number_said (if is then Number n else Other) ≡ (if is then Some n else None)
-    by true n = refl
-    by false n = refl
-
 -- the first token begins with the first byte
 first-here : (hash within : Bool) (place b : ℕ) (bs : List ℕ) → blanked within (b ∷ bs) ≡ b ∷ blanked false bs → is_space b ≡ false → b ≢ 35
     → IsFirstOf hash (tokens_from true place (blanked within (b ∷ bs))) (cut hash within place (b ∷ bs))
-unfolding cut pgm.token_at
+unfolding cut token_cut_at
 first-here hash within place b bs e s h =
     let same : before_first (ends_token true) (b ∷ bs) ≡ word (b ∷ blanked false bs) =
     text-more true b bs (ends-not true b s h) ∙ ap (λ (w : List ℕ). b ∷ w) (text-is-word bs) ∙ sym (word-other b (blanked false bs) s)
@@ -58,8 +40,8 @@ first-here hash within place b bs e s h =
   where
     says : (hash : Bool) → before_first (ends_token true) (b ∷ bs) ≡ word (b ∷ blanked false bs) → hash ≡ true
         → (place + length (before_first (ends_token hash) (b ∷ bs)) ≡ place + length (word (b ∷ blanked false bs)))
-        × (number_of (before_first (ends_token hash) (b ∷ bs)) ≡ number_said (meaning (word (b ∷ blanked false bs))))
-    says true same q = (ap (λ (w : List ℕ). place + length w) same, ap (λ (w : List ℕ). number_of w) same ∙ sym (said (word (b ∷ blanked false bs))))
+        × (meaning (before_first (ends_token hash) (b ∷ bs)) ≡ meaning (word (b ∷ blanked false bs)))
+    says true same q = (ap (λ (w : List ℕ). place + length w) same, ap (λ (w : List ℕ). meaning w) same)
     says false same q = cc
 
 first-later : (hash within into : Bool) (place b c : ℕ) (bs : List ℕ) → blanked within (b ∷ bs) ≡ c ∷ blanked into bs → is_space c ≡ true
@@ -69,7 +51,7 @@ first-later hash within into place b c bs e s first =
     rw (cut-more hash within into place b bs (gap-more within into b c bs e s), e, tokens-space true place c (blanked into bs) s) first
 
 first-of : (hash within : Bool) (place : ℕ) (bytes : List ℕ) → IsFirstOf hash (tokens_from true place (blanked within bytes)) (cut hash within place bytes)
-unfolding cut pgm.token_at gap blanked tokens_from
+unfolding cut token_cut_at gap blanked tokens_from
 first-of hash within place [] = tt
 first-of hash within place (b ∷ bs) = elim (cases_Bool ((within || (b == 35)) && not (is_line_end b))) [
   | inl e ↦ first-later hash within true place b 32 bs (blanked-open within b bs e) refl (first-of hash true (place + 1) bs)

@@ -1,13 +1,15 @@
 -- A picture that is spelled is read.
 use Rattle.std.proofs.Common.{◌≡◌, ℕ, suc, ◌+◌, ◌*◌, ◌/◌, ◌%◌, ◌≤◌, true, false, List, [], ◌∷◌, ◌++◌, length, All, inl, inr, refl, ap, ◌∙◌, arith}
-use Rattle.std.specs.Prelude.{Ok, Some, nat_lt}
+use Rattle.std.specs.Prelude.{Ok, nat_lt}
 use Rattle.std.specs.List.{flat_map}
 use Rattle.std.proofs.lemmas.Bool.{cases_Bool, ne_eqb}
 use Rattle.std.proofs.lemmas.List.Elements.{All-tail}
 use Rattle.std.proofs.lemmas.Nat.{div-add-mod'}
 use Rattle.std.proofs.Math.Nat.{mul_comm, mul-le-mul_right}
+use Rattle.input_tokens.specs.declared.token.Token.TheVariants.{Number}
 use Rattle.pgm_reader.specs.Raster.{Raster, IsRaster}
-use Rattle.pgm_reader.specs.Pgm.{CutToken, number, width, height, greatest, samples, pixels, from_width, from_height, from_greatest, picture}
+use Rattle.pgm_reader.specs.Pgm.{CutToken, width, height, greatest, samples, pixels, from_width, from_height, from_greatest, picture}
+use Rattle.input_tokens.specs.Rules.{number_read}
 use Rattle.pgm_reader.specs.Spelling.{sample_bytes, Spells}
 use Rattle.pgm_reader.proofs.Samples.{samples-one, samples-two}
 
@@ -48,20 +50,20 @@ read-samples end max place xs all = elim (cases_Bool (nat_lt max 256)) [
   | inr large ↦ read-two end max place xs large all
 ]
 
-width-says : (at n : ℕ) → 1 ≤ n → n ≤ 1048576 → width at (Some n) ≡ Ok n
-unfolding width number
+width-says : (at n : ℕ) → 1 ≤ n → n ≤ 1048576 → width at (Number n) ≡ Ok n
+unfolding width number_read
 width-says at n some most =
     let least : nat_lt 1048576 n ≡ false = grind (arith, most) in
     rw (ne_eqb n 0 (λ e. omega (arith, e, some)), least) refl
 
-height-says : (w at n : ℕ) → 1 ≤ n → w * n ≤ 1048576 → height w at (Some n) ≡ Ok n
-unfolding height number
+height-says : (w at n : ℕ) → 1 ≤ n → w * n ≤ 1048576 → height w at (Number n) ≡ Ok n
+unfolding height number_read
 height-says w at n some most =
     let least : nat_lt 1048576 (w * n) ≡ false = not-above 1048576 (w * n) most in
     rw (ne_eqb n 0 (λ e. omega (arith, e, some)), least) refl
 
-greatest-says : (at n : ℕ) → 1 ≤ n → n ≤ 65535 → greatest at (Some n) ≡ Ok n
-unfolding greatest number
+greatest-says : (at n : ℕ) → 1 ≤ n → n ≤ 65535 → greatest at (Number n) ≡ Ok n
+unfolding greatest number_read
 greatest-says at n some most =
     let least : nat_lt 65535 n ≡ false = grind (arith, most) in
     rw (ne_eqb n 0 (λ e. omega (arith, e, some)), least) refl

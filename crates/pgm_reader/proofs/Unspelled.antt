@@ -7,9 +7,11 @@ use Rattle.std.proofs.lemmas.List.Elements.{All-nil, All-cons, All-tail, All-dro
 use Rattle.std.proofs.lemmas.Nat.{div-mul-add, div-add-mod'}
 use Rattle.hg_base.specs.declared.fault.FaultKind.TheVariants.{BadNumber, TooLarge, NoVertex}
 use Rattle.hg_base.specs.declared.fault.InputFault.{InputFault}
-use Rattle.graph_reader.specs.EdgeList.{◌>>=◌, fault, at_most}
+use Rattle.input_tokens.specs.Rules.{◌>>=◌, fault, within_limit, number_read}
+use Rattle.input_tokens.specs.declared.token.Token.{Token}
+use Rattle.input_tokens.specs.declared.token.Token.TheVariants.{Graph, GraphWithAreas, Number, Other}
 use Rattle.pgm_reader.specs.Raster.{Raster}
-use Rattle.pgm_reader.specs.Pgm.{CutToken, cut, token_at, number, width, height, greatest, samples, pixels, from_width, from_height, from_greatest, picture}
+use Rattle.pgm_reader.specs.Pgm.{CutToken, cut, token_cut_at, width, height, greatest, samples, pixels, from_width, from_height, from_greatest, picture}
 use Rattle.pgm_reader.specs.Spelling.{sample_bytes, Spells}
 use Rattle.pgm_reader.proofs.Samples.{samples-one, samples-two, judged}
 
@@ -28,10 +30,12 @@ tested : {A : Type 0} (b : Bool) (f : InputFault) (r : Result A InputFault) (y :
 tested true f r y e = cc
 tested false f r y e = (refl, e)
 
-number-ok : (at : ℕ) (token : Option ℕ) (n : ℕ) → number at token ≡ Ok n → token ≡ Some n
-unfolding number
-number-ok at (Some m) n e = ap (λ (k : ℕ). Some k) (ok-inj m n e)
-number-ok at None n e = cc
+number-ok : (at : ℕ) (token : Token) (n : ℕ) → number_read at token ≡ Ok n → token ≡ Number n
+unfolding number_read
+number-ok at (Number m) n e = ap Number (ok-inj m n e)
+number-ok at Graph n e = cc
+number-ok at GraphWithAreas n e = cc
+number-ok at Other n e = cc
 
 not-0 : (n : ℕ) → nat_eq n 0 ≡ false → 1 ≤ n
 not-0 n e = grind (arith, e)
@@ -40,34 +44,34 @@ not-above : (most n : ℕ) → nat_lt most n ≡ false → n ≤ most
 not-above most n e = grind (arith, e)
 
 -- a number that a rule accepts: it isn't 0, and within the limit
-width-ok : (at : ℕ) (token : Option ℕ) (n : ℕ) → width at token ≡ Ok n → (token ≡ Some n) × (1 ≤ n)
+width-ok : (at : ℕ) (token : Token) (n : ℕ) → width at token ≡ Ok n → (token ≡ Number n) × (1 ≤ n)
 unfolding width
 width-ok at token n e =
-    let s = ok-split (number at token) (λ (k : ℕ). if nat_eq k 0 then fault {A = ℕ} NoVertex at 0 else at_most 1048576 at k) n e in
+    let s = ok-split (number_read at token) (λ (k : ℕ). if nat_eq k 0 then fault {A = ℕ} NoVertex at 0 else within_limit 1048576 at k) n e in
     let t = tested (nat_eq s.0 0) _ _ n s.2 in
     let u = tested (nat_lt 1048576 s.0) _ _ n t.1 in
     let same = ok-inj s.0 n u.1 in
-    (number-ok at token s.0 s.1 ∙ ap (λ (k : ℕ). Some k) same, subst (λ (k : ℕ). 1 ≤ k) same (not-0 s.0 t.0))
+    (number-ok at token s.0 s.1 ∙ ap Number same, subst (λ (k : ℕ). 1 ≤ k) same (not-0 s.0 t.0))
 
-height-ok : (w at : ℕ) (token : Option ℕ) (n : ℕ) → height w at token ≡ Ok n → (token ≡ Some n) × (1 ≤ n) × (w * n ≤ 1048576)
+height-ok : (w at : ℕ) (token : Token) (n : ℕ) → height w at token ≡ Ok n → (token ≡ Number n) × (1 ≤ n) × (w * n ≤ 1048576)
 unfolding height
 height-ok w at token n e =
-    let s = ok-split (number at token) (λ (k : ℕ). if nat_eq k 0 then fault {A = ℕ} NoVertex at 0 else (if nat_lt 1048576 (w * k) then fault {A = ℕ} TooLarge at (w * k) else Ok k)) n e in
+    let s = ok-split (number_read at token) (λ (k : ℕ). if nat_eq k 0 then fault {A = ℕ} NoVertex at 0 else (if nat_lt 1048576 (w * k) then fault {A = ℕ} TooLarge at (w * k) else Ok k)) n e in
     let t = tested (nat_eq s.0 0) _ _ n s.2 in
     let u = tested (nat_lt 1048576 (w * s.0)) _ _ n t.1 in
     let same = ok-inj s.0 n u.1 in
     let range = subst (λ (k : ℕ). (1 ≤ k) × (w * k ≤ 1048576)) same (not-0 s.0 t.0, not-above 1048576 (w * s.0) u.0) in
-    (number-ok at token s.0 s.1 ∙ ap (λ (k : ℕ). Some k) same, range.0, range.1)
+    (number-ok at token s.0 s.1 ∙ ap Number same, range.0, range.1)
 
-greatest-ok : (at : ℕ) (token : Option ℕ) (n : ℕ) → greatest at token ≡ Ok n → (token ≡ Some n) × (1 ≤ n) × (n ≤ 65535)
+greatest-ok : (at : ℕ) (token : Token) (n : ℕ) → greatest at token ≡ Ok n → (token ≡ Number n) × (1 ≤ n) × (n ≤ 65535)
 unfolding greatest
 greatest-ok at token n e =
-    let s = ok-split (number at token) (λ (k : ℕ). if nat_eq k 0 then fault {A = ℕ} BadNumber at 0 else at_most 65535 at k) n e in
+    let s = ok-split (number_read at token) (λ (k : ℕ). if nat_eq k 0 then fault {A = ℕ} BadNumber at 0 else within_limit 65535 at k) n e in
     let t = tested (nat_eq s.0 0) _ _ n s.2 in
     let u = tested (nat_lt 65535 s.0) _ _ n t.1 in
     let same = ok-inj s.0 n u.1 in
     let range = subst (λ (k : ℕ). (1 ≤ k) × (k ≤ 65535)) same (not-0 s.0 t.0, not-above 65535 s.0 u.0) in
-    (number-ok at token s.0 s.1 ∙ ap (λ (k : ℕ). Some k) same, range.0, range.1)
+    (number-ok at token s.0 s.1 ∙ ap Number same, range.0, range.1)
 
 abbrev IsByte : ℕ → Type 0
 IsByte b = b < 256
@@ -152,8 +156,8 @@ read-samples end max k place bytes xs all e = elim (cases_Bool (nat_lt max 256))
 ]
 
 -- what stands behind a token are bytes of the input
-token-bytes : (hash : Bool) (place : ℕ) (bytes : List ℕ) (t : CutToken) → All IsByte bytes → token_at hash place bytes ≡ Some t → All IsByte t.rest
-unfolding token_at
+token-bytes : (hash : Bool) (place : ℕ) (bytes : List ℕ) (t : CutToken) → All IsByte bytes → token_cut_at hash place bytes ≡ Some t → All IsByte t.rest
+unfolding token_cut_at
 token-bytes hash place [] t all e = cc
 token-bytes hash place (b ∷ bs) t all e =
     let same = some-inj _ t e in
@@ -173,27 +177,27 @@ pixels-ok end w h max place (b ∷ bs) r e =
     (b, bs, s.0, refl, s.1, sym (ok-inj _ r s.2))
 
 greatest-split : (end w h : ℕ) (c : Option CutToken) (r : Raster) → from_greatest end w h c ≡ Ok r
-    → (t : CutToken) × (n : ℕ) × (c ≡ Some t) × (greatest t.from t.number ≡ Ok n) × (pixels end w h n t.to t.rest ≡ Ok r)
+    → (t : CutToken) × (n : ℕ) × (c ≡ Some t) × (greatest t.from t.token ≡ Ok n) × (pixels end w h n t.to t.rest ≡ Ok r)
 unfolding from_greatest
 greatest-split end w h None r e = cc
 greatest-split end w h (Some t) r e =
-    let s = ok-split (greatest t.from t.number) (λ (n : ℕ). pixels end w h n t.to t.rest) r e in
+    let s = ok-split (greatest t.from t.token) (λ (n : ℕ). pixels end w h n t.to t.rest) r e in
     (t, s.0, refl, s.1, s.2)
 
 height-split : (end w : ℕ) (c : Option CutToken) (r : Raster) → from_height end w c ≡ Ok r
-    → (t : CutToken) × (n : ℕ) × (c ≡ Some t) × (height w t.from t.number ≡ Ok n) × (from_greatest end w n (cut false false t.to t.rest) ≡ Ok r)
+    → (t : CutToken) × (n : ℕ) × (c ≡ Some t) × (height w t.from t.token ≡ Ok n) × (from_greatest end w n (cut false false t.to t.rest) ≡ Ok r)
 unfolding from_height
 height-split end w None r e = cc
 height-split end w (Some t) r e =
-    let s = ok-split (height w t.from t.number) (λ (n : ℕ). from_greatest end w n (cut false false t.to t.rest)) r e in
+    let s = ok-split (height w t.from t.token) (λ (n : ℕ). from_greatest end w n (cut false false t.to t.rest)) r e in
     (t, s.0, refl, s.1, s.2)
 
 width-split : (end : ℕ) (c : Option CutToken) (r : Raster) → from_width end c ≡ Ok r
-    → (t : CutToken) × (n : ℕ) × (c ≡ Some t) × (width t.from t.number ≡ Ok n) × (from_height end n (cut true false t.to t.rest) ≡ Ok r)
+    → (t : CutToken) × (n : ℕ) × (c ≡ Some t) × (width t.from t.token ≡ Ok n) × (from_height end n (cut true false t.to t.rest) ≡ Ok r)
 unfolding from_width
 width-split end None r e = cc
 width-split end (Some t) r e =
-    let s = ok-split (width t.from t.number) (λ (n : ℕ). from_height end n (cut true false t.to t.rest)) r e in
+    let s = ok-split (width t.from t.token) (λ (n : ℕ). from_height end n (cut true false t.to t.rest)) r e in
     (t, s.0, refl, s.1, s.2)
 
 -- what is read was spelled
@@ -206,9 +210,9 @@ read-spelled bytes r all e =
     let h = height-split end w.1 (cut true false w.0.to w.0.rest) r w.4 in
     let g = greatest-split end w.1 h.1 (cut false false h.0.to h.0.rest) r h.4 in
     let p = pixels-ok end w.1 h.1 g.1 g.0.to g.0.rest r g.4 in
-    let wide = width-ok w.0.from w.0.number w.1 w.3 in
-    let high = height-ok w.1 h.0.from h.0.number h.1 h.3 in
-    let deep = greatest-ok g.0.from g.0.number g.1 g.3 in
+    let wide = width-ok w.0.from w.0.token w.1 w.3 in
+    let high = height-ok w.1 h.0.from h.0.token h.1 h.3 in
+    let deep = greatest-ok g.0.from g.0.token g.1 g.3 in
     let in_w = cut-bytes true false 2 (drop 2 bytes) w.0 (All-drop IsByte 2 bytes all) w.2 in
     let in_h = cut-bytes true false w.0.to w.0.rest h.0 in_w h.2 in
     let in_g = cut-bytes false false h.0.to h.0.rest g.0 in_h g.2 in

@@ -2,6 +2,7 @@
 use Rattle.std.specs.Prelude.{◌≡◌, ◌≢◌, ◌⊎◌, ℕ, ◌<◌, ◌≤◌, true, false, List, [], ◌∷◌, ◌++◌, length, take, drop, Option, Some, None, Result, Ok, Err, All}
 use Rattle.hg_base.specs.declared.fault.FaultKind.TheVariants.{Truncated}
 use Rattle.hg_base.specs.declared.fault.InputFault.{InputFault}
+use Rattle.input_tokens.specs.declared.token.Token.{Token}
 use Rattle.pgm_reader.specs.Pgm.{CutToken, cut, width, height, greatest, picture}
 
 -- what stands behind a right token; behind a wrong one nothing is read
@@ -10,19 +11,19 @@ where_right (Ok n) behind = behind n
 where_right (Err fault) behind = []
 
 -- a token that is read by this rule, and the tokens behind it
-abbrev pub tokens_from : (ℕ → Option ℕ → Result ℕ InputFault) → (ℕ → ℕ → List ℕ → List CutToken) → Option CutToken → List CutToken
-tokens_from rule behind None = []
-tokens_from rule behind (Some t) = t ∷ where_right (rule t.from t.number) (λ n. behind n t.to t.rest)
+abbrev pub right_tokens : (ℕ → Token → Result ℕ InputFault) → (ℕ → ℕ → List ℕ → List CutToken) → Option CutToken → List CutToken
+right_tokens rule behind None = []
+right_tokens rule behind (Some t) = t ∷ where_right (rule t.from t.token) (λ n. behind n t.to t.rest)
 
 abbrev pub greatest_tokens : ℕ → ℕ → List ℕ → List CutToken
-greatest_tokens h place bytes = tokens_from greatest (λ max to rest. []) (cut false false place bytes)
+greatest_tokens h place bytes = right_tokens greatest (λ max to rest. []) (cut false false place bytes)
 
 abbrev pub height_tokens : ℕ → ℕ → List ℕ → List CutToken
-height_tokens w place bytes = tokens_from (height w) greatest_tokens (cut true false place bytes)
+height_tokens w place bytes = right_tokens (height w) greatest_tokens (cut true false place bytes)
 
 -- the tokens that are read of the header: the width, the height and the greatest value, up to the first that is wrong or missing
 unfoldable pub header : List ℕ → List CutToken
-header bytes = tokens_from width height_tokens (cut true false 2 (drop 2 bytes))
+header bytes = right_tokens width height_tokens (cut true false 2 (drop 2 bytes))
 
 -- the token doesn't go on across this place
 abbrev pub IsBeside : ℕ → CutToken → Type 0

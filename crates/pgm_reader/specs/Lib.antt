@@ -2,6 +2,8 @@ pub mod Raster
 pub mod PictureFields
 pub mod Pgm
 pub mod Lexing
+pub mod Parsing
+pub mod ParserFields
 pub mod Progress
 pub mod DecoderFields
 pub mod Grid

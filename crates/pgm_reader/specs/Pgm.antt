@@ -5,40 +5,32 @@ use Rattle.std.specs.Prelude.{ℕ, zero, suc, ◌+◌, ◌*◌, Bool, true, fals
 use Rattle.std.specs.List.{before_first, prefix_len, fold, starts_with}
 use Rattle.hg_base.specs.declared.fault.FaultKind.TheVariants.{BadNumber, TooLarge, Truncated, Trailing, NoVertex, SampleAboveMax}
 use Rattle.hg_base.specs.declared.fault.InputFault.{InputFault}
-use Rattle.graph_reader.specs.Tokens.{is_space, blanked, is_number, decimal}
-use Rattle.graph_reader.specs.EdgeList.{◌>>=◌, fault, at_most}
+use Rattle.input_tokens.specs.declared.token.Token.{Token}
+use Rattle.input_tokens.specs.Tokens.{is_space, blanked, meaning, goes_on_apart}
+use Rattle.input_tokens.specs.Rules.{◌>>=◌, fault, number_read, within_limit}
 use Rattle.pgm_reader.specs.Raster.{Raster}
-
--- the bytes end, or go on with white space or a comment
-abbrev pub goes_on_apart : List ℕ → Bool
-goes_on_apart [] = true
-goes_on_apart (b ∷ bs) = is_space b || (b == 35)
 
 -- whether the bytes begin a picture: `P5`, and then the end, white space or a comment
 unfoldable pub is_picture : List ℕ → Bool
 is_picture bytes = starts_with nat_eq bytes (codes "P5") && goes_on_apart (drop 2 bytes)
 
--- a token that was cut off: the place of its first byte, its number where it is one, the place behind its last byte, and the bytes from there on
+-- a token that was cut off: the place of its first byte, what it says, the place behind its last byte, and the bytes from there on
 pub record CutToken : Type 0 where
   pub from : ℕ
-  pub number : Option ℕ
+  pub token : Token
   pub to : ℕ
   pub rest : List ℕ
-
--- the number that a token spells by one to ten digits
-abbrev pub number_of : List ℕ → Option ℕ
-number_of text = if is_number text then Some (decimal text) else None
 
 -- whether a token ends before this byte: at white space, and where it is said also at a `#`
 abbrev pub ends_token : Bool → ℕ → Bool
 ends_token hash_ends b = is_space b || (hash_ends && (b == 35))
 
 -- the token that begins where these bytes do
-unfoldable pub token_at : Bool → ℕ → List ℕ → Option CutToken
-token_at hash_ends place [] = None
-token_at hash_ends place (b ∷ bs) =
+unfoldable pub token_cut_at : Bool → ℕ → List ℕ → Option CutToken
+token_cut_at hash_ends place [] = None
+token_cut_at hash_ends place (b ∷ bs) =
     let text = before_first (ends_token hash_ends) (b ∷ bs) in
-    Some (record { from = place; number = number_of text; to = place + length text; rest = drop (length text) (b ∷ bs) })
+    Some (record { from = place; token = meaning text; to = place + length text; rest = drop (length text) (b ∷ bs) })
 
 -- how many bytes of white space and comments come first; within says that the first byte stands inside a comment
 unfoldable pub gap : Bool → List ℕ → ℕ
@@ -46,29 +38,25 @@ gap within bytes = prefix_len is_space (blanked within bytes)
 
 -- the first token of the bytes from this place on
 unfoldable pub cut : Bool → Bool → ℕ → List ℕ → Option CutToken
-cut hash_ends within place bytes = token_at hash_ends (place + gap within bytes) (drop (gap within bytes) bytes)
+cut hash_ends within place bytes = token_cut_at hash_ends (place + gap within bytes) (drop (gap within bytes) bytes)
 
--- A rule says what the number of a token at a place gives.
+-- A rule says what a token at a place gives.
 
-unfoldable pub number : ℕ → Option ℕ → Result ℕ InputFault
-number at (Some n) = Ok n
-number at None = fault BadNumber at 0
-
-unfoldable pub width : ℕ → Option ℕ → Result ℕ InputFault
+unfoldable pub width : ℕ → Token → Result ℕ InputFault
 width at token = do
-  n ← number at token
-  if n == 0 then fault NoVertex at 0 else at_most 1048576 at n
+  n ← number_read at token
+  if n == 0 then fault NoVertex at 0 else within_limit 1048576 at n
 
 -- the height of a picture of this width: it has at most 1,048,576 pixels
-unfoldable pub height : ℕ → ℕ → Option ℕ → Result ℕ InputFault
+unfoldable pub height : ℕ → ℕ → Token → Result ℕ InputFault
 height w at token = do
-  n ← number at token
+  n ← number_read at token
   if n == 0 then fault NoVertex at 0 else (if nat_lt 1048576 (w * n) then fault TooLarge at (w * n) else Ok n)
 
-unfoldable pub greatest : ℕ → Option ℕ → Result ℕ InputFault
+unfoldable pub greatest : ℕ → Token → Result ℕ InputFault
 greatest at token = do
-  n ← number at token
-  if n == 0 then fault BadNumber at 0 else at_most 65535 at n
+  n ← number_read at token
+  if n == 0 then fault BadNumber at 0 else within_limit 65535 at n
 
 -- a sample has one byte where the greatest value is below 256, else two
 abbrev pub sample_size : ℕ → ℕ
@@ -98,21 +86,21 @@ pixels end w h max place (b ∷ bs) = do
 unfoldable pub from_greatest : ℕ → ℕ → ℕ → Option CutToken → Result Raster InputFault
 from_greatest end w h None = fault Truncated end 0
 from_greatest end w h (Some t) = do
-  max ← greatest t.from t.number
+  max ← greatest t.from t.token
   pixels end w h max t.to t.rest
 
 -- what comes after the width, from the height's token on
 unfoldable pub from_height : ℕ → ℕ → Option CutToken → Result Raster InputFault
 from_height end w None = fault Truncated end 0
 from_height end w (Some t) = do
-  h ← height w t.from t.number
+  h ← height w t.from t.token
   from_greatest end w h (cut false false t.to t.rest)
 
 -- what comes after `P5`, from the width's token on
 unfoldable pub from_width : ℕ → Option CutToken → Result Raster InputFault
 from_width end None = fault Truncated end 0
 from_width end (Some t) = do
-  w ← width t.from t.number
+  w ← width t.from t.token
   from_height end w (cut true false t.to t.rest)
 
 -- The picture of bytes that begin one, or its first fault.
@@ -136,11 +124,11 @@ greatest_settles (Some t) = is_ended t
 
 unfoldable pub height_settles : ℕ → Option CutToken → Bool
 height_settles w None = false
-height_settles w (Some t) = is_ended t && settled_by (height w t.from t.number) (λ h. greatest_settles (cut false false t.to t.rest))
+height_settles w (Some t) = is_ended t && settled_by (height w t.from t.token) (λ h. greatest_settles (cut false false t.to t.rest))
 
 unfoldable pub width_settles : Option CutToken → Bool
 width_settles None = false
-width_settles (Some t) = is_ended t && settled_by (width t.from t.number) (λ w. height_settles w (cut true false t.to t.rest))
+width_settles (Some t) = is_ended t && settled_by (width t.from t.token) (λ w. height_settles w (cut true false t.to t.rest))
 
 unfoldable pub settles : List ℕ → Bool
 settles bytes = width_settles (cut true false 2 (drop 2 bytes))

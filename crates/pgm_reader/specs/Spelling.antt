@@ -1,6 +1,7 @@
 -- How a picture is spelled: three numbers, a byte of white space, and the bytes of the samples.
 use Rattle.std.specs.Prelude.{◌≡◌, ℕ, ◌≤◌, ◌/◌, ◌%◌, true, false, nat_lt, if◌then◌else◌, List, [], ◌∷◌, drop, Some}
 use Rattle.std.specs.List.{flat_map}
+use Rattle.input_tokens.specs.declared.token.Token.TheVariants.{Number}
 use Rattle.pgm_reader.specs.Raster.{Raster, IsRaster}
 use Rattle.pgm_reader.specs.Pgm.{CutToken, cut}
 
@@ -15,7 +16,7 @@ pub record Spells (bytes : List ℕ) (r : Raster) (width height greatest : CutTo
   pub first : cut true false 2 (drop 2 bytes) ≡ Some width
   pub second : cut true false width.to width.rest ≡ Some height
   pub third : cut false false height.to height.rest ≡ Some greatest
-  pub says_width : width.number ≡ Some r.width
-  pub says_height : height.number ≡ Some r.height
-  pub says_greatest : greatest.number ≡ Some r.max
+  pub says_width : width.token ≡ Number r.width
+  pub says_height : height.token ≡ Number r.height
+  pub says_greatest : greatest.token ≡ Number r.max
   pub samples : greatest.rest ≡ space ∷ flat_map (sample_bytes r.max) r.samples

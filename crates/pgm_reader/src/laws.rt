@@ -5,7 +5,7 @@ ghost use Rattle.pgm_reader.specs.Pgm.{CutToken, cut, picture};
 ghost use Rattle.pgm_reader.specs.Spelling.{Spells};
 ghost use Rattle.pgm_reader.specs.FirstFault.{IsFirst, PartsNone, missing};
 ghost use Rattle.pgm_reader.specs.HeaderTokens.{IsFirstOf};
-ghost use Rattle.graph_reader.specs.Tokens.{blanked, tokens_from};
+ghost use Rattle.input_tokens.specs.Tokens.{blanked, tokens_from};
 
 /// What is read as a picture is what spells it: three numbers, a byte of white space and the bytes of its samples.
 pub fn pictures_are_spellings()

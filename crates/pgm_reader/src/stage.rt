@@ -1,5 +1,5 @@
-use crate::lexer::Lexer;
 use hg_base::InputFault;
+use input_tokens::Lexer;
 
 /// A number of a picture's header.
 #[derive(Clone, Copy)]

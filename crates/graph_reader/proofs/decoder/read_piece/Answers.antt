@@ -1,6 +1,6 @@
 use Rattle.std.proofs.Common.{rules}
 use Rattle.graph_reader.proofs.Decoding.{read-both}
-use Rattle.graph_reader.proofs.Runs.{take-both, take-rest}
+use Rattle.input_tokens.proofs.QuietRuns.{take-both, take-rest}
 use Rattle.graph_reader.proofs.decoder.read_piece.Goals as goal
 
 pub loop-read-preserved : goal.loop-read-preserved

@@ -1,5 +1,5 @@
 use Rattle.std.proofs.Common.{◌+◌, ◌-◌, ◌≤◌, List, ℕ, ◌++◌, length, take}
-use Rattle.graph_reader.specs.Lexing.{IsLexing}
+use Rattle.input_tokens.specs.Lexing.{IsLexing}
 use Rattle.graph_reader.specs.Parsing.{KeepsMemory}
 use Rattle.graph_reader.specs.Progress.{HasRead}
 use Rattle.graph_reader.proofs.decoder.read_piece.Given as goal

@@ -6,7 +6,7 @@ pub returns-in-Inside-clause-read : goal.returns-in-Inside-clause-read
 returns-in-Inside-clause-read c =
     let s = c.self.inside in
     λ bytes read. answered c.finish_with.result _ bytes (rw (← c.self.view_is, c.in-Inside.is) at read)
-    (λ memory. rw (at-end-of-token s.taken c.in-Inside.at c.in-Inside.text s.parser, ← c.token.ensures) (c.finish_with.ensures.read memory s.taken))
+    (λ memory. rw (at-end-of-token s.taken c.in-Inside.at c.in-Inside.text s.parser, ← c.token.ensures.value) (c.finish_with.ensures.read memory s.taken))
     (λ out. c.finish_with.ensures.memory.0 out)
 
 pub returns-in-Between-clause-read : goal.returns-in-Between-clause-read

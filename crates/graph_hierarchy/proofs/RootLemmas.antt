@@ -10,7 +10,7 @@ use Rattle.tile_plan.specs.Plan.{TilePlan, IsPlan, end_place, first_place, grid_
 use Rattle.tile_plan.specs.Sites.{Part}
 use Rattle.tile_plan.proofs.Agreeing.{home-below}
 use Rattle.tile_plan.proofs.Counting.{start-all, start-zero}
-use Rattle.tile_plan.proofs.Mothers.{plan-tiles, root-part}
+use Rattle.tile_plan.proofs.Parents.{plan-tiles, root-part}
 
 -- the root begins at the first place
 root-first : (p : TilePlan) → IsPlan p → first_place p (root p) ≡ 0

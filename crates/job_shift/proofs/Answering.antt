@@ -9,7 +9,7 @@ use Rattle.atomic_table.specs.Table.{Final, Seen}
 use Rattle.job_shift.specs.Times.{times, total, jobs, times_out}
 use Rattle.job_shift.specs.Shift.{ShiftTable, IsShift, Shows, steps}
 use Rattle.job_shift.specs.Hands.{HandState, handed, joined}
-use Rattle.job_shift.specs.Calls.{IsHandedTo}
+use Rattle.job_shift.specs.HandedNumbers.{IsHandedTo}
 use Rattle.job_shift.specs.Finishing.{entered, handed_among, with_each}
 use Rattle.job_shift.specs.declared.view.HandView.{HandView}
 use Rattle.job_shift.specs.declared.view.Pair.{Pair}

@@ -5,7 +5,7 @@ use Rattle.std.proofs.lemmas.List.Elements.{All-nil, All-cons, All-append}
 use Rattle.std.specs.Prelude.{All, Some, slice_get}
 use Rattle.job_shift.specs.Times.{times, jobs, pair_count}
 use Rattle.job_shift.specs.Hands.{HandState, ShiftState, IsHandOf, IsFresh, HasMissed, handed}
-use Rattle.job_shift.specs.Calls.{Gets, Misses}
+use Rattle.job_shift.specs.HandedNumbers.{Gets, Misses}
 use Rattle.job_shift.specs.Finishing.{handed_among}
 use Rattle.job_shift.specs.Doing.{AreTexts, HaveDone, HasWorked, IsCrewOf, IsReady, done_jobs}
 use Rattle.job_shift.specs.declared.view.HandView.{HandView}
@@ -52,11 +52,11 @@ texts_more all done more d e text old = subst (λ (l : List Done). AreTexts all 
 -- what one hand has done
 pub one_done : (all : List (List ℕ)) (shift : ShiftState) (old new : HandState) (done : List Done) → IsHandOf new shift → HasMissed new → AreTexts all done
     → ((j : ℕ) → times j (handed new) ≡ times j (handed old) + times j (done_jobs done)) → HaveDone all shift (old ∷ []) (new ∷ []) done
-one_done all shift old new done of missed texts times_ = record {
+one_done all shift old new done of missed texts same_times = record {
   each = All-cons (λ hand. IsHandOf hand shift) new [] of (All-nil (λ hand. IsHandOf hand shift));
   missed = All-cons HasMissed new [] missed (All-nil HasMissed);
   texts = texts;
-  jobs = λ j. (let t = times_ j in omega arith);
+  jobs = λ j. (let t = same_times j in omega arith);
 }
 
 among-append : (hands more : List HandState) (j : ℕ) → handed_among (hands ++ more) j ≡ handed_among hands j + handed_among more j

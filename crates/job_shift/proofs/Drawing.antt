@@ -5,8 +5,8 @@ use Rattle.std.proofs.lemmas.List.Elements.{All-append, All-cons, All-nil}
 use Rattle.std.specs.Prelude.{All}
 use Rattle.job_shift.specs.Times.{jobs, times_out, pair_count}
 use Rattle.job_shift.specs.Hands.{with_job, missing}
-use Rattle.job_shift.specs.Plays.{Hold, Steps, Moment}
-use Rattle.job_shift.specs.Calls.{Gets, Misses}
+use Rattle.job_shift.specs.Steps.{Hold, Steps, Moment}
+use Rattle.job_shift.specs.HandedNumbers.{Gets, Misses}
 use Rattle.job_shift.specs.declared.view.HandView.{HandView}
 use Rattle.job_shift.specs.declared.view.Pair.{Pair}
 use Rattle.job_shift.proofs.Stepping.{got_before, out_before, not_out}

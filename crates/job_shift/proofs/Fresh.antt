@@ -8,7 +8,7 @@ use Rattle.std.proofs.lemmas.List.FromFn.{length-range_with_len, map-range_with_
 use mathlib.Core.Option.{some, some-injective, some-ne-none}
 use lib.ListN.{get_elem?}
 use Rattle.job_shift.specs.Hands.{HandState, ShiftState, IsHandOf, IsFresh, AreAllHands, numbers, first_view, fresh_hand, fresh_hands, split_left, split_right}
-use Rattle.job_shift.specs.Calls.{IsUnstarted}
+use Rattle.job_shift.specs.HandedNumbers.{IsUnstarted}
 use Rattle.job_shift.specs.declared.view.HandView.{HandView}
 use Rattle.job_shift.specs.declared.view.Pair.{Pair}
 use Rattle.job_shift.proofs.Numbers.{none_handed_out}

@@ -11,7 +11,7 @@ use mathlib.Core.Option.{some, some-injective, some-ne-none}
 use lib.ListN.{get_elem?}
 use Rattle.job_shift.specs.Times.{times}
 use Rattle.job_shift.specs.Hands.{HandState, ShiftState, handed}
-use Rattle.job_shift.specs.Calls.{IsHandedTo}
+use Rattle.job_shift.specs.HandedNumbers.{IsHandedTo}
 use Rattle.job_shift.specs.Finishing.{handed_among}
 use Rattle.job_shift.specs.Doing.{AreTexts, HaveDone, done_jobs}
 use Rattle.job_shift.specs.Placing.{texts_of}

@@ -11,7 +11,7 @@ use Rattle.atomic_table.specs.Table.{Act, keeps, Valid, stepped, Allows, carried
 use Rattle.job_shift.specs.Times.{times, jobs, times_out, pair_count, missed_share}
 use Rattle.job_shift.specs.Shift.{ShiftTable, IsShift, Shows, steps}
 use Rattle.job_shift.specs.Hands.{with_job, missing}
-use Rattle.job_shift.specs.Plays.{Hold, Steps, Moment}
+use Rattle.job_shift.specs.Steps.{Hold, Steps, Moment}
 use Rattle.job_shift.specs.declared.view.HandView.{HandView}
 use Rattle.job_shift.proofs.Sums.{one_if, one_if-same, one_if-other, times-with_job, pair_count-with_job, total_set, total_has, missed_all, missed_none}
 use Rattle.job_shift.proofs.Views.{word_set, each_set}

@@ -1,9 +1,11 @@
 pub mod Times
 pub mod Shift
 pub mod Hands
-pub mod Plays
-pub mod Calls
-pub mod Fields
+pub mod Steps
+pub mod HandedNumbers
+pub mod RuleOfKey
+pub mod HandFields
+pub mod ShiftFields
 pub mod Finishing
 pub mod Doing
 pub mod Placing

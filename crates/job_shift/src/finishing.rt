@@ -1,7 +1,7 @@
 ghost use Rattle.std.specs.Prelude.{◌≡◌, ℕ, ◌<◌, ◌≤◌, [], true, All, length, slice_index};
 ghost use Rattle.job_shift.specs.Times.{jobs, times};
 ghost use Rattle.job_shift.specs.Hands.{AreAllHands, HasMissed, handed, joined};
-ghost use Rattle.job_shift.specs.Calls.{IsHandedTo};
+ghost use Rattle.job_shift.specs.HandedNumbers.{IsHandedTo};
 ghost use Rattle.job_shift.specs.Finishing.{IsHandAt, entered, handed_among, with_each};
 
 use crate::hand::{Hand, Token};

@@ -21,7 +21,7 @@ impl Model for Hand {
 
     ghost Value = { HandState };
 
-    ghost use Rattle.job_shift.specs.Fields.{hand_of, IsHand};
+    ghost use Rattle.job_shift.specs.HandFields.{hand_of, IsHand};
 
     ghost view = { hand_of };
 

@@ -6,7 +6,7 @@ ghost use Rattle.std.specs.Prelude.{◌≡◌, ℕ, ◌+◌, ◌%◌, ◌^◌, �
 ghost use Rattle.atomic_table.specs.Table.{Allows, Splits, Joins, opening};
 ghost use Rattle.job_shift.specs.Shift.{ShiftTable, IsShift, IsPairOf, Shows, steps};
 ghost use Rattle.job_shift.specs.Hands.{first_view, split_left, split_right, joined, left_over};
-ghost use Rattle.job_shift.specs.Plays.{Hold, Steps};
+ghost use Rattle.job_shift.specs.Steps.{Hold, Steps};
 ghost use Rattle.job_shift.specs.declared.view.HandView.{HandView};
 
 /// The rule holds where a shift is started: no step was made, and one hand that got nothing stands for all workers.

@@ -1,5 +1,5 @@
-ghost use Rattle.job_shift.specs.Fields.{rule_of, first_of};
-ghost use Rattle.job_shift.specs.Plays.{Steps};
+ghost use Rattle.job_shift.specs.RuleOfKey.{rule_of, first_of};
+ghost use Rattle.job_shift.specs.Steps.{Steps};
 ghost use Rattle.job_shift.specs.Hands.{split_left, split_right, joined, left_over};
 
 use crate::view::{HandView, Key};

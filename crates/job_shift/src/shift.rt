@@ -1,6 +1,6 @@
 ghost use Rattle.std.specs.Prelude.{◌≡◌, ◌<◌, ◌≤◌, false, IfSome, IfNone};
 ghost use Rattle.job_shift.specs.Hands.{IsHandOf};
-ghost use Rattle.job_shift.specs.Calls.{Gets, Misses};
+ghost use Rattle.job_shift.specs.HandedNumbers.{Gets, Misses};
 
 use crate::hand::Hand;
 use crate::rule::{ShiftRule, Stepping};
@@ -24,7 +24,7 @@ impl Model for Shift {
 
     ghost Value = { ShiftState };
 
-    ghost use Rattle.job_shift.specs.Fields.{shift_of, IsShiftTable};
+    ghost use Rattle.job_shift.specs.ShiftFields.{shift_of, IsShiftTable};
 
     ghost view = { shift_of };
 

@@ -1,7 +1,7 @@
 ghost use Rattle.std.specs.Prelude.{◌≡◌, ◌+◌, ◌≤◌, ◌≤◌, All, IfOk, [], replicate, vec_capacity};
 ghost use Rattle.std.specs.List.{range_with_len};
 ghost use Rattle.job_shift.specs.Hands.{AreAllHands, IsFresh, IsHandOf, first_view, fresh_hands, numbers, split_left, split_right};
-ghost use Rattle.job_shift.specs.Calls.{IsUnstarted};
+ghost use Rattle.job_shift.specs.HandedNumbers.{IsUnstarted};
 
 use crate::hand::Hand;
 use crate::rule::OneWorker;

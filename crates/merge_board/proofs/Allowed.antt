@@ -11,7 +11,7 @@ use Rattle.border_climb.specs.Stands.{PartState}
 use Rattle.merge_board.specs.Fits.{Opened}
 use Rattle.merge_board.specs.Board.{IsInOrder, IsBoard, Keeps, missed_share}
 use Rattle.merge_board.specs.Seats.{drawn, missing}
-use Rattle.merge_board.specs.Plays.{Draws}
+use Rattle.merge_board.specs.Steps.{Draws}
 use Rattle.merge_board.specs.declared.view.View.{View}
 use Rattle.merge_board.proofs.Changes.{IsChange, shown, apart_from}
 use Rattle.merge_board.proofs.Calm.{IsCalm, calm_as, calm_views, more_draws}

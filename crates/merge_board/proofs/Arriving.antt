@@ -10,18 +10,18 @@ use mathlib.Core.Option as maybe
 use lib.ListN.{get_elem?}
 use Rattle.atomic_table.specs.Table.{State, Act, takes, gives, chain, Valid, stepped, Allows, carried_after}
 use Rattle.atomic_table.proofs.Lists.{set_else}
-use Rattle.tile_plan.specs.Plan.{TilePlan, tile_count, part_count, root, mother, weight, sibling}
+use Rattle.tile_plan.specs.Plan.{TilePlan, tile_count, part_count, root, parent, weight, sibling}
 use Rattle.border_climb.specs.Stands.{PartState}
 use Rattle.merge_board.specs.Fits.{Fits}
 use Rattle.merge_board.specs.Board.{IsPart, IsFormed, IsSpent, IsInOrder, IsBoard, Keeps, word_of, door, missed_share}
 use Rattle.merge_board.specs.Seats.{idle, with_merge}
-use Rattle.merge_board.specs.Plays.{Arrives, ArrivesWith, AreBelow, last_of}
+use Rattle.merge_board.specs.Steps.{Arrives, ArrivesWith, AreBelow, last_of}
 use Rattle.merge_board.specs.declared.view.View.{View}
-use Rattle.merge_board.proofs.Doors.{some_plan, door_some, door_inner, door_root, mother_inner, mother_merge, mother_later, sibling_part, sibling_door, sibling_weight, weight_two}
+use Rattle.merge_board.proofs.Doors.{some_plan, door_some, door_inner, door_root, parent_inner, parent_merge, parent_later, sibling_part, sibling_door, sibling_weight, weight_two}
 use Rattle.merge_board.proofs.Changes.{IsChange}
 use Rattle.merge_board.proofs.Calm.{spent_slot}
-use Rattle.merge_board.proofs.First.{first_arrives}
-use Rattle.merge_board.proofs.Second as second
+use Rattle.merge_board.proofs.FirstArrival.{first_arrives}
+use Rattle.merge_board.proofs.SecondArrival as second
 use Rattle.merge_board.proofs.Sums.{total_set, changed_words, changed_list, within_list}
 use Rattle.merge_board.proofs.Seen.{most_seen_set}
 
@@ -81,37 +81,37 @@ module _ (p : TilePlan) (workers id i : ℕ) (v : View) (y : PartState) (s : Boa
       board.plan order id i n v y shows hand z (record { here = words.here ∙ (omega arith); others = words.others }) (changed_list hs i (some (Some y)) (let l = long in let a = part in omega arith)) (changed_list s.views id (idle v n) there) fits)
 
   pub inner : n ≢ 0 → i ≢ root p
-  inner some_ e = some_ (second.root_zero p workers (slice_index s.words) (get_elem? hs) (get_elem? s.views) board.plan order id i v shows hand e)
+  inner found_some e = found_some (second.root_zero p workers (slice_index s.words) (get_elem? hs) (get_elem? s.views) board.plan order id i v shows hand e)
 
   pub sibling_slot : n ≢ 0 → (z : PartState) × (Keeps (get_elem? hs) (sibling p i) z × Fits p (sibling p i) z)
-  sibling_slot some_ = second.sibling_slot p workers (slice_index s.words) (get_elem? hs) (get_elem? s.views) board.plan order id i v shows hand (inner some_) some_
+  sibling_slot found_some = second.sibling_slot p workers (slice_index s.words) (get_elem? hs) (get_elem? s.views) board.plan order id i v shows hand (inner found_some) found_some
 
-  sibling_lower : n ≢ 0 → sibling p i < mother p i
-  sibling_lower some_ = let a = mother_later p board.plan (sibling p i) (sibling_part p board.plan i part (inner some_)) in let b = sibling_door p board.plan i part (inner some_) in
-      let c = mother_merge p board.plan i part in let d = mother_merge p board.plan (sibling p i) (sibling_part p board.plan i part (inner some_)) in omega arith
+  sibling_lower : n ≢ 0 → sibling p i < parent p i
+  sibling_lower found_some = let a = parent_later p board.plan (sibling p i) (sibling_part p board.plan i part (inner found_some)) in let b = sibling_door p board.plan i part (inner found_some) in
+      let c = parent_merge p board.plan i part in let d = parent_merge p board.plan (sibling p i) (sibling_part p board.plan i part (inner found_some)) in omega arith
 
-  pub mother_slot : n ≢ 0 → get_elem? (slice_set hs (sibling p i) none) (mother p i) ≡ some (some None)
-  mother_slot some_ = set_else hs (sibling p i) (mother p i) none (let l = sibling_lower some_ in λ e. omega arith)
-      ∙ second.mother_slot p workers (slice_index s.words) (get_elem? hs) (get_elem? s.views) board.plan order id i v shows hand (inner some_)
+  pub parent_slot : n ≢ 0 → get_elem? (slice_set hs (sibling p i) none) (parent p i) ≡ some (some None)
+  parent_slot found_some = set_else hs (sibling p i) (parent p i) none (let l = sibling_lower found_some in λ e. omega arith)
+      ∙ second.parent_slot p workers (slice_index s.words) (get_elem? hs) (get_elem? s.views) board.plan order id i v shows hand (inner found_some)
 
   pub found_weight : n ≢ 0 → n ≡ weight p (sibling p i)
-  found_weight some_ = sym (ap (slice_index s.words) (sibling_door p board.plan i part (inner some_))) ∙ second.sibling_home p workers (slice_index s.words) (get_elem? hs) (get_elem? s.views) board.plan order id i v shows hand (inner some_) some_
+  found_weight found_some = sym (ap (slice_index s.words) (sibling_door p board.plan i part (inner found_some))) ∙ second.sibling_home p workers (slice_index s.words) (get_elem? hs) (get_elem? s.views) board.plan order id i v shows hand (inner found_some) found_some
 
-  pub second_kept : n ≢ 0 → IsBoard p workers (after (slice_set (slice_set hs (sibling p i) none) (mother p i) none) (with_merge v (mother p i) n))
-  second_kept some_ = kept (slice_set (slice_set hs (sibling p i) none) (mother p i) none) (with_merge v (mother p i) n)
-      (length-set (slice_set hs (sibling p i) none) (mother p i) none ∙ long') refl refl refl
-      (second.second_arrives p workers (slice_index s.words) (slice_index (slice_set s.words (door p i) ((n + weight p i) % 2 ^ 64))) (get_elem? hs) (get_elem? (slice_set hs (sibling p i) none)) (get_elem? (slice_set (slice_set hs (sibling p i) none) (mother p i) none))
-      (get_elem? s.views) (get_elem? (slice_set s.views id (with_merge v (mother p i) n))) board.plan order id i n v shows hand (inner some_) some_
+  pub second_kept : n ≢ 0 → IsBoard p workers (after (slice_set (slice_set hs (sibling p i) none) (parent p i) none) (with_merge v (parent p i) n))
+  second_kept found_some = kept (slice_set (slice_set hs (sibling p i) none) (parent p i) none) (with_merge v (parent p i) n)
+      (length-set (slice_set hs (sibling p i) none) (parent p i) none ∙ long') refl refl refl
+      (second.second_arrives p workers (slice_index s.words) (slice_index (slice_set s.words (door p i) ((n + weight p i) % 2 ^ 64))) (get_elem? hs) (get_elem? (slice_set hs (sibling p i) none)) (get_elem? (slice_set (slice_set hs (sibling p i) none) (parent p i) none))
+      (get_elem? s.views) (get_elem? (slice_set s.views id (with_merge v (parent p i) n))) board.plan order id i n v shows hand (inner found_some) found_some
       (record { here = words.here ∙ three; others = words.others })
-      (changed_list hs (sibling p i) none (let a = sibling_part p board.plan i part (inner some_) in let l = long in omega arith))
-      (changed_list (slice_set hs (sibling p i) none) (mother p i) none (let a = mother_inner p board.plan i part (inner some_) in let l = long' in omega arith))
-      (changed_list s.views id (with_merge v (mother p i) n) there))
+      (changed_list hs (sibling p i) none (let a = sibling_part p board.plan i part (inner found_some) in let l = long in omega arith))
+      (changed_list (slice_set hs (sibling p i) none) (parent p i) none (let a = parent_inner p board.plan i part (inner found_some) in let l = long' in omega arith))
+      (changed_list s.views id (with_merge v (parent p i) n) there))
     where
       long' : length (slice_set hs (sibling p i) none) ≡ part_count p
       long' = length-set hs (sibling p i) none ∙ long
 
       three : n + weight p i ≡ 3
-      three = let a = found_weight some_ in let b = sibling_weight p board.plan i part (inner some_) in omega arith
+      three = let a = found_weight found_some in let b = sibling_weight p board.plan i part (inner found_some) in omega arith
 
 -- an arrival of a part whose slot is the last that the seat holds, behind those of its halves
 module _ (p : TilePlan) (workers id slots i : ℕ) (v : View) (y : PartState) (hand : v.hand ≡ Some i) (known : v.plan ≡ p) (fits : Fits p i y) where
@@ -125,19 +125,19 @@ module _ (p : TilePlan) (workers id slots i : ℕ) (v : View) (y : PartState) (h
   told_first held n z = told held n (idle v n) [] (record { root_zero = λ e. z; waits = λ e. (refl, refl); both = λ ne. absurd (ne z) })
 
   told_second : (held : List (ℕ × Option PartState)) (m : ℕ) (z : PartState) → m ≢ 0 → i ≢ root p → m ≡ weight p (sibling p i) → Fits p (sibling p i) z
-      → Arrives (v, held) m (with_merge v (mother p i) m, (mother p i, None) ∷ (sibling p i, Some z) ∷ (i, last_of held) ∷ [])
-  told_second held m z some_ inner_ weighs fits_z = told held m (with_merge v (mother p i) m) ((mother p i, None) ∷ (sibling p i, Some z) ∷ (i, last_of held) ∷ []) (record {
-    root_zero = λ e. absurd (inner_ (e ∙ ap (λ (q : TilePlan). root q) known));
-    waits = λ zero_. absurd (some_ zero_);
+      → Arrives (v, held) m (with_merge v (parent p i) m, (parent p i, None) ∷ (sibling p i, Some z) ∷ (i, last_of held) ∷ [])
+  told_second held m z found_some is_inner weighs fits_z = told held m (with_merge v (parent p i) m) ((parent p i, None) ∷ (sibling p i, Some z) ∷ (i, last_of held) ∷ []) (record {
+    root_zero = λ e. absurd (is_inner (e ∙ ap (λ (q : TilePlan). root q) known));
+    waits = λ found_none. absurd (found_some found_none);
     both = λ ne. (
       subst (λ (q : TilePlan). m ≡ weight q (sibling q i)) (sym known) weighs,
       (
-        ap (λ (q : TilePlan). with_merge v (mother q i) m) (sym known),
+        ap (λ (q : TilePlan). with_merge v (parent q i) m) (sym known),
         (
           z,
           (
             subst (λ (q : TilePlan). Fits q (sibling q i) z) (sym known) fits_z,
-            ap (λ (q : TilePlan). (mother q i, None) ∷ (sibling q i, Some z) ∷ (i, last_of held) ∷ []) (sym known),
+            ap (λ (q : TilePlan). (parent q i, None) ∷ (sibling q i, Some z) ∷ (i, last_of held) ∷ []) (sym known),
           ),
         ),
       ),
@@ -150,17 +150,17 @@ module _ (p : TilePlan) (workers id slots i : ℕ) (v : View) (y : PartState) (h
       by : (slice_index s.words (door p i) ≡ 0) ⊎ (slice_index s.words (door p i) ≢ 0) → (u : View) × (a : Act (Option PartState)) × Valid s.homes ((i, Some y) ∷ []) a
           × IsBoard p workers (stepped s (door p i) ((slice_index s.words (door p i) + weight p i) % 2 ^ 64) id ((i, Some y) ∷ []) u a) × Arrives (v, (i, Some y) ∷ []) (slice_index s.words (door p i)) (u, carried_after ((i, Some y) ∷ []) a)
       by (inl z) = (idle v (slice_index s.words (door p i)), gives, tt, first_kept p workers id i v y s s.homes b b.order b.slots shows hand fits z, told_first ((i, Some y) ∷ []) (slice_index s.words (door p i)) z)
-      by (inr some_) = (
-        with_merge v (mother p i) (slice_index s.words (door p i)),
-        chain (takes (sibling p i) (Some sib.0)) (takes (mother p i) None),
-        (sib.1.0, mother_slot p workers id i v y s s.homes b b.order b.slots shows hand fits some_),
-        second_kept p workers id i v y s s.homes b b.order b.slots shows hand fits some_,
-        told_second ((i, Some y) ∷ []) (slice_index s.words (door p i)) sib.0 some_ (inner p workers id i v y s s.homes b b.order b.slots shows hand fits some_) (found_weight p workers id i v y s s.homes b b.order b.slots shows hand fits some_) sib.1.1,
+      by (inr found_some) = (
+        with_merge v (parent p i) (slice_index s.words (door p i)),
+        chain (takes (sibling p i) (Some sib.0)) (takes (parent p i) None),
+        (sib.1.0, parent_slot p workers id i v y s s.homes b b.order b.slots shows hand fits found_some),
+        second_kept p workers id i v y s s.homes b b.order b.slots shows hand fits found_some,
+        told_second ((i, Some y) ∷ []) (slice_index s.words (door p i)) sib.0 found_some (inner p workers id i v y s s.homes b b.order b.slots shows hand fits found_some) (found_weight p workers id i v y s s.homes b b.order b.slots shows hand fits found_some) sib.1.1,
       )
         where
           sib : (z : PartState) × (Keeps (get_elem? s.homes) (sibling p i) z × Fits p (sibling p i) z)
-          sib = sibling_slot p workers id i v y s s.homes b b.order b.slots shows hand fits some_
-  may_arrive (x ∷ []) none_ s b long shows small = absurd none_
+          sib = sibling_slot p workers id i v y s s.homes b b.order b.slots shows hand fits found_some
+  may_arrive (x ∷ []) impossible s b long shows small = absurd impossible
   may_arrive (x ∷ x' ∷ []) halves s b long shows small = by (cases_eq (slice_index s.words (door p i)) 0)
     where
       hs_long : length (slice_set (slice_set s.homes x.0 (some x.1)) x'.0 (some x'.1)) ≡ part_count p
@@ -176,28 +176,28 @@ module _ (p : TilePlan) (workers id slots i : ℕ) (v : View) (y : PartState) (h
           of_formed (inl f) = absurd (let low = halves.0 in let a = f.0 in omega arith)
           of_formed (inr f) = f.1
 
-      spent : (a : ℕ) → mother p a ≡ i → IsSpent p (slice_index s.words) a
+      spent : (a : ℕ) → parent p a ≡ i → IsSpent p (slice_index s.words) a
       spent a e = ap (λ (m : ℕ). slice_index s.words (word_of p m)) e ∙ word_three
 
       order : IsInOrder p workers (slice_index s.words) (get_elem? (slice_set (slice_set s.homes x.0 (some x.1)) x'.0 (some x'.1))) (get_elem? s.views)
       order = spent_slot p workers (slice_index s.words) (get_elem? (slice_set s.homes x.0 (some x.1))) (get_elem? (slice_set (slice_set s.homes x.0 (some x.1)) x'.0 (some x'.1))) (get_elem? s.views) b.plan
-          (spent_slot p workers (slice_index s.words) (get_elem? s.homes) (get_elem? (slice_set s.homes x.0 (some x.1))) (get_elem? s.views) b.plan b.order x.0 (some (some x.1)) halves.1.first (spent x.0 halves.1.first_mother)
+          (spent_slot p workers (slice_index s.words) (get_elem? s.homes) (get_elem? (slice_set s.homes x.0 (some x.1))) (get_elem? s.views) b.plan b.order x.0 (some (some x.1)) halves.1.first (spent x.0 halves.1.first_parent)
           (changed_list s.homes x.0 (some x.1) (let l = b.slots in let q = halves.1.first in omega arith)))
-          x'.0 (some (some x'.1)) halves.1.second (spent x'.0 halves.1.second_mother)
+          x'.0 (some (some x'.1)) halves.1.second (spent x'.0 halves.1.second_parent)
           (changed_list (slice_set s.homes x.0 (some x.1)) x'.0 (some x'.1) (let l = length-set s.homes x.0 (some x.1) ∙ b.slots in let q = halves.1.second in omega arith))
 
       by : (slice_index s.words (door p i) ≡ 0) ⊎ (slice_index s.words (door p i) ≢ 0) → (u : View) × (a : Act (Option PartState)) × Valid s.homes (x ∷ x' ∷ (i, Some y) ∷ []) a
           × IsBoard p workers (stepped s (door p i) ((slice_index s.words (door p i) + weight p i) % 2 ^ 64) id (x ∷ x' ∷ (i, Some y) ∷ []) u a) × Arrives (v, x ∷ x' ∷ (i, Some y) ∷ []) (slice_index s.words (door p i)) (u, carried_after (x ∷ x' ∷ (i, Some y) ∷ []) a)
       by (inl z) = (idle v (slice_index s.words (door p i)), chain gives (chain gives gives), (tt, (tt, tt)), first_kept p workers id i v y s (slice_set (slice_set s.homes x.0 (some x.1)) x'.0 (some x'.1)) b order hs_long shows hand fits z, told_first (x ∷ x' ∷ (i, Some y) ∷ []) (slice_index s.words (door p i)) z)
-      by (inr some_) = (
-        with_merge v (mother p i) (slice_index s.words (door p i)),
-        chain gives (chain gives (chain (takes (sibling p i) (Some sib.0)) (takes (mother p i) None))),
-        (tt, (tt, (sib.1.0, mother_slot p workers id i v y s (slice_set (slice_set s.homes x.0 (some x.1)) x'.0 (some x'.1)) b order hs_long shows hand fits some_))),
-        second_kept p workers id i v y s (slice_set (slice_set s.homes x.0 (some x.1)) x'.0 (some x'.1)) b order hs_long shows hand fits some_,
-        told_second (x ∷ x' ∷ (i, Some y) ∷ []) (slice_index s.words (door p i)) sib.0 some_ (inner p workers id i v y s (slice_set (slice_set s.homes x.0 (some x.1)) x'.0 (some x'.1)) b order hs_long shows hand fits some_)
-            (found_weight p workers id i v y s (slice_set (slice_set s.homes x.0 (some x.1)) x'.0 (some x'.1)) b order hs_long shows hand fits some_) sib.1.1,
+      by (inr found_some) = (
+        with_merge v (parent p i) (slice_index s.words (door p i)),
+        chain gives (chain gives (chain (takes (sibling p i) (Some sib.0)) (takes (parent p i) None))),
+        (tt, (tt, (sib.1.0, parent_slot p workers id i v y s (slice_set (slice_set s.homes x.0 (some x.1)) x'.0 (some x'.1)) b order hs_long shows hand fits found_some))),
+        second_kept p workers id i v y s (slice_set (slice_set s.homes x.0 (some x.1)) x'.0 (some x'.1)) b order hs_long shows hand fits found_some,
+        told_second (x ∷ x' ∷ (i, Some y) ∷ []) (slice_index s.words (door p i)) sib.0 found_some (inner p workers id i v y s (slice_set (slice_set s.homes x.0 (some x.1)) x'.0 (some x'.1)) b order hs_long shows hand fits found_some)
+            (found_weight p workers id i v y s (slice_set (slice_set s.homes x.0 (some x.1)) x'.0 (some x'.1)) b order hs_long shows hand fits found_some) sib.1.1,
       )
         where
           sib : (z : PartState) × (Keeps (get_elem? (slice_set (slice_set s.homes x.0 (some x.1)) x'.0 (some x'.1))) (sibling p i) z × Fits p (sibling p i) z)
-          sib = sibling_slot p workers id i v y s (slice_set (slice_set s.homes x.0 (some x.1)) x'.0 (some x'.1)) b order hs_long shows hand fits some_
-  may_arrive (x ∷ x' ∷ x'' ∷ xs) none_ s b long shows small = absurd none_
+          sib = sibling_slot p workers id i v y s (slice_set (slice_set s.homes x.0 (some x.1)) x'.0 (some x'.1)) b order hs_long shows hand fits found_some
+  may_arrive (x ∷ x' ∷ x'' ∷ xs) impossible s b long shows small = absurd impossible

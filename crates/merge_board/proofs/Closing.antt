@@ -6,7 +6,7 @@ use lib.ListN.{get_elem?}
 use Rattle.atomic_table.specs.Table.{State}
 use Rattle.tile_plan.specs.Plan.{TilePlan, tile_count, part_count, root, weight, left, right}
 use Rattle.tile_plan.specs.Laws.{HasHalves}
-use Rattle.tile_plan.proofs.Mothers.{has_halves}
+use Rattle.tile_plan.proofs.Parents.{has_halves}
 use Rattle.border_climb.specs.Stands.{PartState}
 use Rattle.merge_board.specs.Fits.{Fits}
 use Rattle.merge_board.specs.Board.{IsPart, IsFormed, IsAtHome, HasArrived, IsBoard, Shows, Keeps, word_of, door}
@@ -45,8 +45,8 @@ module _ (p : TilePlan) (workers : ℕ) (s : State (Option PartState) View) (boa
 
   of_formed : (i : ℕ) → IsPart p i → IsFormed p (slice_index s.words) i → HasArrived p (slice_index s.words) i
   of_formed i h f = elim (is_away i) [
-    | inl yes_ ↦ yes_
-    | inr no_ ↦ absurd (arrived i h f no_)
+    | inl holds ↦ holds
+    | inr fails ↦ absurd (arrived i h f fails)
   ]
 
   -- both halves arrived
@@ -57,10 +57,10 @@ module _ (p : TilePlan) (workers : ℕ) (s : State (Option PartState) View) (boa
       halves = has_halves p m board.plan low h
 
       at_left : slice_index s.words (door p (left p m)) ≡ slice_index s.words (word_of p m)
-      at_left = ap (λ (x : ℕ). slice_index s.words (word_of p x)) halves.left_mother
+      at_left = ap (λ (x : ℕ). slice_index s.words (word_of p x)) halves.left_parent
 
       at_right : slice_index s.words (door p (right p m)) ≡ slice_index s.words (word_of p m)
-      at_right = ap (λ (x : ℕ). slice_index s.words (word_of p x)) halves.right_mother
+      at_right = ap (λ (x : ℕ). slice_index s.words (word_of p x)) halves.right_parent
 
       by : HasArrived p (slice_index s.words) (left p m) → HasArrived p (slice_index s.words) (right p m) → slice_index s.words (word_of p m) ≡ 3
       by (inr spent) z = sym at_left ∙ spent

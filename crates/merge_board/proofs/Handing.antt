@@ -5,21 +5,21 @@ use Rattle.std.proofs.lemmas.Option.{same_Some}
 use Rattle.std.specs.Prelude.{Option, Some, None}
 use Rattle.atomic_table.specs.Table.{rest, turned, Allows}
 use Rattle.atomic_table.specs.declared.shared.Seat.{Seat}
-use Rattle.tile_plan.specs.Plan.{TilePlan, IsPlan, tile_count, part_count, root, mother, weight, sibling, side_of, left, right}
+use Rattle.tile_plan.specs.Plan.{TilePlan, IsPlan, tile_count, part_count, root, parent, weight, sibling, side_of, left, right}
 use Rattle.tile_plan.specs.declared.site.Side.TheVariants as sides
-use Rattle.tile_plan.proofs.Mothers.{has_mother}
+use Rattle.tile_plan.proofs.Parents.{has_parent}
 use Rattle.border_climb.specs.Stands.{PartState}
 use Rattle.merge_board.specs.Fits.{Fits}
 use Rattle.merge_board.specs.Board.{IsBoard, door}
 use Rattle.merge_board.specs.Seats.{with_merge}
-use Rattle.merge_board.specs.Plays.{Hold, Arrives, ArrivesWith, AreTurns, AreBelow, AreHalves}
-use Rattle.merge_board.specs.Fields.{IsSeat}
+use Rattle.merge_board.specs.Steps.{Hold, Arrives, ArrivesWith, AreTurns, AreBelow, AreHalves}
+use Rattle.merge_board.specs.SeatFields.{IsSeat}
 use Rattle.merge_board.specs.declared.view.View.{View}
 use Rattle.merge_board.specs.declared.seat.Seat.TheInside.{Inside}
-use Rattle.merge_board.proofs.Doors.{some_plan, door_inner, door_root, mother_inner, mother_merge, sibling_part, sibling_weight, weight_some, weight_two}
+use Rattle.merge_board.proofs.Doors.{some_plan, door_inner, door_root, parent_inner, parent_merge, sibling_part, sibling_weight, weight_some, weight_two}
 use Rattle.merge_board.proofs.Arriving.{may_arrive}
 use Rattle.merge_board.proofs.Changes.{no_hand}
-use Rattle.merge_board.proofs.Held.{arrives_alone}
+use Rattle.merge_board.proofs.HeldSlots.{arrives_alone}
 use Rattle.merge_board.proofs.Places.{left_weight, right_weight, left_sibling, right_sibling}
 
 abbrev Held : Type 0
@@ -39,23 +39,23 @@ unfolding first_has
 same_first held a b k l x y z e f g = same_Some z y (sym g ∙ ap first_has (sym e ∙ f))
 
 -- which half is which
-pub halves_left : (p : TilePlan) (i m : ℕ) (own other : PartState) → IsPlan p → i < part_count p → i ≢ root p → side_of (weight p i) ≡ sides.Left → m ≡ mother p i → Fits p i own → Fits p (sibling p i) other
-    → (m ≡ mother p i) × (Fits p (left p m) own × Fits p (right p m) other)
+pub halves_left : (p : TilePlan) (i m : ℕ) (own other : PartState) → IsPlan p → i < part_count p → i ≢ root p → side_of (weight p i) ≡ sides.Left → m ≡ parent p i → Fits p i own → Fits p (sibling p i) other
+    → (m ≡ parent p i) × (Fits p (left p m) own × Fits p (right p m) other)
 halves_left p i m own other h l inner side e a b = (
   e,
   (
-    subst (λ (k : ℕ). Fits p k own) (sym ((has_mother p i h l).left_half inner (sym (left_weight (weight p i) (weight_some p h i l) (weight_two p h i l) side))) ∙ ap (λ (k : ℕ). left p k) (sym e)) a,
+    subst (λ (k : ℕ). Fits p k own) (sym ((has_parent p i h l).left_half inner (sym (left_weight (weight p i) (weight_some p h i l) (weight_two p h i l) side))) ∙ ap (λ (k : ℕ). left p k) (sym e)) a,
     subst (λ (k : ℕ). Fits p k other) (sym (left_sibling p i h l side) ∙ ap (λ (k : ℕ). right p k) (sym e)) b,
   ),
 )
 
-pub halves_right : (p : TilePlan) (i m : ℕ) (own other : PartState) → IsPlan p → i < part_count p → i ≢ root p → side_of (weight p i) ≡ sides.Right → m ≡ mother p i → Fits p i own → Fits p (sibling p i) other
-    → (m ≡ mother p i) × (Fits p (left p m) other × Fits p (right p m) own)
+pub halves_right : (p : TilePlan) (i m : ℕ) (own other : PartState) → IsPlan p → i < part_count p → i ≢ root p → side_of (weight p i) ≡ sides.Right → m ≡ parent p i → Fits p i own → Fits p (sibling p i) other
+    → (m ≡ parent p i) × (Fits p (left p m) other × Fits p (right p m) own)
 halves_right p i m own other h l inner side e a b = (
   e,
   (
     subst (λ (k : ℕ). Fits p k other) (sym (right_sibling p i h l side) ∙ ap (λ (k : ℕ). left p k) (sym e)) b,
-    subst (λ (k : ℕ). Fits p k own) (sym ((has_mother p i h l).right_half inner (sym (right_weight (weight p i) (weight_some p h i l) (weight_two p h i l) side))) ∙ ap (λ (k : ℕ). right p k) (sym e)) a,
+    subst (λ (k : ℕ). Fits p k own) (sym ((has_parent p i h l).right_half inner (sym (right_weight (weight p i) (weight_some p h i l) (weight_two p h i l) side))) ∙ ap (λ (k : ℕ). right p k) (sym e)) a,
   ),
 )
 
@@ -86,36 +86,36 @@ told_alone p i n me me' after y hand known t e a =
 
 -- a seat that has the merge above part i in its hand
 pub merge_seat : (s : Inside) (t : Seat (Option PartState) View) (i n m : ℕ) (y : Option PartState) (after : Hold) → IsSeat s → IsPlan s.token.me.0.plan → s.token.me.0.hand ≡ Some i → i ≢ root s.token.me.0.plan → n ≢ 0
-    → ArrivesWith i (s.token.me.0, (i, y) ∷ []) n after → m ≡ mother s.token.me.0.plan i
-    → t.me ≡ (after.0, (mother s.token.me.0.plan i, None) ∷ (sibling s.token.me.0.plan i, None) ∷ (i, None) ∷ []) → IsSeat (record { token = t; number = s.number; hand = Some m; missed = s.missed })
-merge_seat s t i n m y after ok plan hand inner some_ a above slots = record {
+    → ArrivesWith i (s.token.me.0, (i, y) ∷ []) n after → m ≡ parent s.token.me.0.plan i
+    → t.me ≡ (after.0, (parent s.token.me.0.plan i, None) ∷ (sibling s.token.me.0.plan i, None) ∷ (i, None) ∷ []) → IsSeat (record { token = t; number = s.number; hand = Some m; missed = s.missed })
+merge_seat s t i n m y after ok plan hand inner found_some a above slots = record {
   number = ok.number ∙ sym (ap (λ (v : View). v.number) view);
   hand = ap (λ (k : ℕ). Some k) above ∙ sym (ap (λ (v : View). v.hand) view);
   missed = ok.missed ∙ sym (ap (λ (v : View). v.missed) view);
   idle = subst (λ (v : View). v.missed ≡ true → v.hand ≡ None) (sym view) (λ m. absurd (no_hand s.token.me.0 i (ok.idle m) hand));
   share = subst (λ (v : View). 1 ≤ v.share) (sym view) ok.share;
   workers = subst (λ (v : View). v.workers ≤ 64) (sym view) ok.workers;
-  part = subst (λ (v : View). (j : ℕ) → v.hand ≡ Some j → j < part_count v.plan) (sym view) (λ j e. subst (λ (k : ℕ). k < part_count s.token.me.0.plan) (same_Some (mother s.token.me.0.plan i) j e) (mother_inner s.token.me.0.plan plan i is_part inner));
-  turns = subst (λ (h : Hold). AreTurns h.0.plan h.0.hand h.1) (sym me_is) (None, ((sibling s.token.me.0.plan i, None) ∷ (i, None) ∷ [], (refl, (mother_merge s.token.me.0.plan plan i is_part, halves))));
+  part = subst (λ (v : View). (j : ℕ) → v.hand ≡ Some j → j < part_count v.plan) (sym view) (λ j e. subst (λ (k : ℕ). k < part_count s.token.me.0.plan) (same_Some (parent s.token.me.0.plan i) j e) (parent_inner s.token.me.0.plan plan i is_part inner));
+  turns = subst (λ (h : Hold). AreTurns h.0.plan h.0.hand h.1) (sym me_is) (None, ((sibling s.token.me.0.plan i, None) ∷ (i, None) ∷ [], (refl, (parent_merge s.token.me.0.plan plan i is_part, halves))));
 }
   where
     is_part : i < part_count s.token.me.0.plan
     is_part = ok.part i hand
 
-    after_view : after.0 ≡ with_merge s.token.me.0 (mother s.token.me.0.plan i) n
-    after_view = (a.both some_).1.0
+    after_view : after.0 ≡ with_merge s.token.me.0 (parent s.token.me.0.plan i) n
+    after_view = (a.both found_some).1.0
 
-    view : t.me.0 ≡ with_merge s.token.me.0 (mother s.token.me.0.plan i) n
+    view : t.me.0 ≡ with_merge s.token.me.0 (parent s.token.me.0.plan i) n
     view = ap (λ (h : Hold). h.0) slots ∙ after_view
 
-    me_is : t.me ≡ (with_merge s.token.me.0 (mother s.token.me.0.plan i) n, (mother s.token.me.0.plan i, None) ∷ (sibling s.token.me.0.plan i, None) ∷ (i, None) ∷ [])
-    me_is = slots ∙ ap (λ (v : View). (v, (mother s.token.me.0.plan i, None) ∷ (sibling s.token.me.0.plan i, None) ∷ (i, None) ∷ [])) after_view
+    me_is : t.me ≡ (with_merge s.token.me.0 (parent s.token.me.0.plan i) n, (parent s.token.me.0.plan i, None) ∷ (sibling s.token.me.0.plan i, None) ∷ (i, None) ∷ [])
+    me_is = slots ∙ ap (λ (v : View). (v, (parent s.token.me.0.plan i, None) ∷ (sibling s.token.me.0.plan i, None) ∷ (i, None) ∷ [])) after_view
 
-    halves : AreHalves s.token.me.0.plan (mother s.token.me.0.plan i) (sibling s.token.me.0.plan i) i
+    halves : AreHalves s.token.me.0.plan (parent s.token.me.0.plan i) (sibling s.token.me.0.plan i) i
     halves = record {
       first = sibling_part s.token.me.0.plan plan i is_part inner;
       second = is_part;
-      first_mother = (has_mother s.token.me.0.plan i plan is_part).sibling_mother inner;
-      second_mother = refl;
+      first_parent = (has_parent s.token.me.0.plan i plan is_part).sibling_parent inner;
+      second_parent = refl;
       weights = sibling_weight s.token.me.0.plan plan i is_part inner;
     }

@@ -8,7 +8,7 @@ use Rattle.border_climb.specs.Parts.{IsLot, CanJoin, listed}
 use Rattle.hg_base.specs.declared.graph.PlacedEdge.{PlacedEdge}
 use Rattle.tile_plan.specs.Plan.{TilePlan, IsPlan, IsPlaceOf, tile_count, part_count, left, right, first_place, end_place, first_tile, tiles_of, lot_edges, edges_at, room_tiles, start}
 use Rattle.tile_plan.specs.Laws.{HasHalves, JoinsHalves, IsSomewhere, IsTile, HasEdges, Crosses}
-use Rattle.tile_plan.proofs.Mothers.{has_halves}
+use Rattle.tile_plan.proofs.Parents.{has_halves}
 use Rattle.tile_plan.proofs.Ranges.{is_somewhere, is_tile}
 use Rattle.tile_plan.proofs.Edges.{joins_halves, crosses, has_edges}
 use Rattle.hg_base.specs.declared.graph.Room.{Room}
@@ -139,7 +139,7 @@ module _ (p : TilePlan) (m : ℕ) (a b : PartState) (plan : IsPlan p) (low : til
   merge_is = is_somewhere p m plan high
 
   both_places : count a.region + count b.region ≡ end_place p m - first_place p m
-  both_places = let ca = fa.shape.places in let cb = fb.shape.places in let l = left_is.some_place in let r = right_is.some_place in let x = halves.left_place in let y = halves.right_place in let z = halves.end_ in omega (arith, ca, cb, l, r, x, y, z)
+  both_places = let ca = fa.shape.places in let cb = fb.shape.places in let l = left_is.some_place in let r = right_is.some_place in let x = halves.left_place in let y = halves.right_place in let z = halves.right_end in omega (arith, ca, cb, l, r, x, y, z)
 
   joined_places : (made : PartState) → count made.region ≡ count a.region + count b.region → count made.region ≡ end_place p m - first_place p m
   joined_places made e = e ∙ both_places

@@ -1,7 +1,7 @@
 pub mod Doors
 pub mod Changes
-pub mod First
-pub mod Second
+pub mod FirstArrival
+pub mod SecondArrival
 pub mod Draws
 pub mod Calm
 pub mod Sums
@@ -12,7 +12,7 @@ pub mod Allowed
 pub mod Arriving
 pub mod Joining
 pub mod Closing
-pub mod Held
+pub mod HeldSlots
 pub mod Places
 pub mod States
 pub mod Handing

@@ -13,7 +13,7 @@ use Rattle.border_climb.specs.Stands.{PartState}
 use Rattle.tile_plan.specs.Plan.{TilePlan, tile_count}
 use Rattle.merge_board.specs.Fits.{Opened}
 use Rattle.merge_board.specs.Opening.{AreOpened, AreOpenedTiles}
-use Rattle.merge_board.specs.Plays.{AreTurns}
+use Rattle.merge_board.specs.Steps.{AreTurns}
 use Rattle.merge_board.specs.Seats.{SeatState, BoardState, IsSeatOf, IsReady, AreAllSeats, first_view, fresh_seat, fresh_seats, split_left, split_right}
 
 abbrev Slots : Type 0

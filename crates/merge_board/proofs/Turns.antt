@@ -5,12 +5,12 @@ use Rattle.std.proofs.lemmas.List.Elements.{All-nil, All-cons, All-head, All-tai
 use Rattle.std.specs.Prelude.{Option, Some, None, slice_index}
 use lib.ListN.{get_elem?}
 use Rattle.atomic_table.specs.Table.{State, turned}
-use Rattle.tile_plan.specs.Plan.{TilePlan, tile_count, mother}
+use Rattle.tile_plan.specs.Plan.{TilePlan, tile_count, parent}
 use Rattle.border_climb.specs.Stands.{PartState}
 use Rattle.merge_board.specs.Board.{IsBoard, IsPart, IsFormed, IsInHand, Words, Shows, word_of}
 use Rattle.merge_board.specs.Exchanges.{IsOut, AreOut, SlotState, held_after, with_slot}
-use Rattle.merge_board.specs.Fields.{rule_of}
-use Rattle.merge_board.specs.Plays.{Hold, AreTurns, AreBelow}
+use Rattle.merge_board.specs.RuleOfKey.{rule_of}
+use Rattle.merge_board.specs.Steps.{Hold, AreTurns, AreBelow}
 use Rattle.merge_board.specs.declared.view.View.{View}
 use Rattle.merge_board.specs.declared.view.Key.{Key}
 use Rattle.merge_board.proofs.Calm.{free_slot, spent_away}
@@ -27,22 +27,22 @@ module _ (p : TilePlan) (workers : ℕ) (s : State (Option PartState) View) (b :
   hand_out k i v shows hand = let at = b.order.in_hand k i v shows hand in record { part = at.0; out = inl at.1; born = λ un. un at.1.0; away = λ home. at.1.1 (inl home) }
 
   -- a half of a merge that is formed
-  half_out : (i a : ℕ) → tile_count p ≤ i → IsFormed p w i → IsPart p a → mother p a ≡ i → IsOut p w a
+  half_out : (i a : ℕ) → tile_count p ≤ i → IsFormed p w i → IsPart p a → parent p a ≡ i → IsOut p w a
   half_out i a merge formed part e = record { part = part; out = inr spent; born = λ un. un (b.order.formed a part (inr spent)); away = spent_away p w a b.plan part spent }
     where
       three : IsFormed p w i → w (word_of p i) ≡ 3
       three (inl f) = absurd (let t = f.0 in omega arith)
       three (inr f) = f.1
 
-      spent : w (word_of p (mother p a)) ≡ 3
+      spent : w (word_of p (parent p a)) ≡ 3
       spent = ap (λ (m : ℕ). w (word_of p m)) e ∙ three formed
 
   below_out : (i : ℕ) (below : Held) → IsFormed p w i → AreBelow p i below → AreOut p w below
   below_out i [] formed tile = All-nil (λ (slot : ℕ × Option PartState). IsOut p w slot.0)
-  below_out i (x ∷ []) formed none_ = absurd none_
-  below_out i (x ∷ y ∷ []) formed halves = All-cons (λ (slot : ℕ × Option PartState). IsOut p w slot.0) x (y ∷ []) (half_out i x.0 halves.0 formed halves.1.first halves.1.first_mother)
-      (All-cons (λ (slot : ℕ × Option PartState). IsOut p w slot.0) y [] (half_out i y.0 halves.0 formed halves.1.second halves.1.second_mother) (All-nil (λ (slot : ℕ × Option PartState). IsOut p w slot.0)))
-  below_out i (x ∷ y ∷ z ∷ zs) formed none_ = absurd none_
+  below_out i (x ∷ []) formed impossible = absurd impossible
+  below_out i (x ∷ y ∷ []) formed halves = All-cons (λ (slot : ℕ × Option PartState). IsOut p w slot.0) x (y ∷ []) (half_out i x.0 halves.0 formed halves.1.first halves.1.first_parent)
+      (All-cons (λ (slot : ℕ × Option PartState). IsOut p w slot.0) y [] (half_out i y.0 halves.0 formed halves.1.second halves.1.second_parent) (All-nil (λ (slot : ℕ × Option PartState). IsOut p w slot.0)))
+  below_out i (x ∷ y ∷ z ∷ zs) formed impossible = absurd impossible
 
   -- the slots of the part in a seat's hand and of its halves are out
   turns_out : (k : ℕ) (v : View) (held : Held) (hand : Option ℕ) → Shows (get_elem? s.views) k v → v.hand ≡ hand → AreTurns p hand held → AreOut p w held
@@ -63,7 +63,7 @@ module _ (p : TilePlan) (workers : ℕ) (s : State (Option PartState) View) (b :
     draws = b.draws;
   }
     where
-      formed : IsInHand p w i ⊎ (w (word_of p (mother p i)) ≡ 3) → IsFormed p w i
+      formed : IsInHand p w i ⊎ (w (word_of p (parent p i)) ≡ 3) → IsFormed p w i
       formed (inl a) = a.0
       formed (inr spent) = b.order.formed i o.part (inr spent)
 

@@ -9,7 +9,7 @@ use Rattle.atomic_table.specs.Table.{State}
 use Rattle.atomic_table.proofs.Lists.{set_else}
 use Rattle.border_climb.specs.Stands.{PartState}
 use Rattle.merge_board.specs.Board.{Shows, missed_share, total}
-use Rattle.merge_board.specs.Fields.{rule_of}
+use Rattle.merge_board.specs.RuleOfKey.{rule_of}
 use Rattle.merge_board.specs.Opening.{KnowsNoDraw, IsUndrawn}
 use Rattle.merge_board.specs.Seats.{SeatState, BoardState, fresh_seat, fresh_seats, left_over}
 use Rattle.merge_board.specs.declared.view.View.{View}
@@ -24,14 +24,14 @@ none_drawn key s b fresh = let a = most_seen_within s.views 0 unseen in let c = 
   where
     unseen : (k : ℕ) (v : View) → Shows (get_elem? s.views) k v → v.seen ≤ 0
     unseen k v h = elim (cases_lt 0 v.share) [
-      | inl some_ ↦ (let f = (fresh k v h some_).0 in omega arith)
-      | inr none_ ↦ (let f = (b.order.left_over k v h (omega arith)).1 in omega arith)
+      | inl some_share ↦ (let f = (fresh k v h some_share).0 in omega arith)
+      | inr no_share ↦ (let f = (b.order.left_over k v h (omega arith)).1 in omega arith)
     ]
 
     none_missed : (k : ℕ) (v : View) → Shows (get_elem? s.views) k v → missed_share v ≡ 0
     none_missed k v h = elim (cases_lt 0 v.share) [
-      | inl some_ ↦ missed_none v (fresh k v h some_).1
-      | inr none_ ↦ (let m = missed_within v in omega arith)
+      | inl some_share ↦ missed_none v (fresh k v h some_share).1
+      | inr no_share ↦ (let m = missed_within v in omega arith)
     ]
 
 -- what holds of the seats of the first numbers holds of each
@@ -51,10 +51,10 @@ each_down P b (suc n) all m h = elim (cases_eq m n) [
 -- where the first n seats have all n workers, each view that stands for one is theirs
 all_theirs : (P : View → Type 0) (b : BoardState) → ((m : ℕ) → P (fresh_seat b m).view) → (n : ℕ) (vs : List View) → total (λ v. v.share) vs ≡ n
     → ((m : ℕ) → m < n → (k : ℕ) × Shows (get_elem? vs) k (fresh_seat b m).view) → (j : ℕ) (u : View) → Shows (get_elem? vs) j u → 1 ≤ u.share → P u
-all_theirs P b each zero vs all shown j u at some_ = absurd (let t = total_has (λ v. v.share) vs j u at in omega arith)
-all_theirs P b each (suc n) vs all shown j u at some_ = elim (cases_eq j place) [
+all_theirs P b each zero vs all shown j u at some_share = absurd (let t = total_has (λ v. v.share) vs j u at in omega arith)
+all_theirs P b each (suc n) vs all shown j u at some_share = elim (cases_eq j place) [
   | inl same ↦ subst P (some-injective (fresh_seat b n).view u (sym here ∙ subst (λ (k : ℕ). get_elem? vs k ≡ some u) same at)) (each n)
-  | inr ne ↦ all_theirs P b each n (slice_set vs place left_over) fewer others j u (set_else vs place j left_over ne ∙ at) some_
+  | inr ne ↦ all_theirs P b each n (slice_set vs place left_over) fewer others j u (set_else vs place j left_over ne ∙ at) some_share
 ]
   where
     last : (k : ℕ) × Shows (get_elem? vs) k (fresh_seat b n).view
@@ -81,5 +81,5 @@ all_theirs P b each (suc n) vs all shown j u at some_ = elim (cases_eq j place) 
 
 -- no tile is drawn where all seats are fresh
 pub fresh_undrawn : (b : BoardState) → IsUndrawn b (fresh_seats b)
-fresh_undrawn b key s plan workers rule shown = none_drawn key s rule (λ k v h some_. all_theirs KnowsNoDraw b (λ m. (refl, refl)) b.workers s.views (rule.shares ∙ workers)
-    (each_down (λ (seat : SeatState). (j : ℕ) × Shows (get_elem? s.views) j seat.view) b b.workers shown) k v h some_)
+fresh_undrawn b key s plan workers rule shown = none_drawn key s rule (λ k v h some_share. all_theirs KnowsNoDraw b (λ m. (refl, refl)) b.workers s.views (rule.shares ∙ workers)
+    (each_down (λ (seat : SeatState). (j : ℕ) × Shows (get_elem? s.views) j seat.view) b b.workers shown) k v h some_share)

@@ -6,7 +6,7 @@ use mathlib.Core.Option as maybe
 use lib.ListN.{get_elem?}
 use Rattle.atomic_table.specs.Table.{State}
 use Rattle.border_climb.specs.Stands.{PartState}
-use Rattle.tile_plan.specs.Plan.{TilePlan, IsPlan, tile_count, part_count, root, mother, weight}
+use Rattle.tile_plan.specs.Plan.{TilePlan, IsPlan, tile_count, part_count, root, parent, weight}
 use Rattle.merge_board.specs.Fits.{Fits, Opened}
 use Rattle.merge_board.specs.declared.view.View.{View}
 
@@ -26,7 +26,7 @@ word_of p m = m + 1 - tile_count p
 
 -- the word to which a part's arrival adds its weight: that of the merge above it
 abbrev pub door : TilePlan → ℕ → ℕ
-door p i = word_of p (mother p i)
+door p i = word_of p (parent p i)
 
 -- the part is one of the plan
 abbrev pub IsPart : TilePlan → ℕ → Type 0

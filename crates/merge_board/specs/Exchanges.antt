@@ -5,7 +5,7 @@ use Rattle.atomic_table.specs.Table.{State}
 use Rattle.border_climb.specs.Stands.{PartState}
 use Rattle.tile_plan.specs.Plan.{TilePlan}
 use Rattle.merge_board.specs.Board.{Words, IsPart, IsUnborn, IsInHand, IsAtHome, IsSpent}
-use Rattle.merge_board.specs.Plays.{Hold}
+use Rattle.merge_board.specs.Steps.{Hold}
 use Rattle.merge_board.specs.declared.view.View.{View}
 
 -- the slots that a seat holds, after this is put into the one that was taken last

@@ -1,9 +1,11 @@
 pub mod Fits
 pub mod Board
 pub mod Seats
-pub mod Fields
-pub mod Plays
-pub mod Calls
+pub mod RuleOfKey
+pub mod SeatFields
+pub mod BoardFields
+pub mod Steps
+pub mod DrawsAndArrivals
 pub mod SeatsFields
 pub mod ReceiptFields
 pub mod Opening

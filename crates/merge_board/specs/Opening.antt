@@ -8,7 +8,7 @@ use Rattle.tile_plan.specs.Plan.{TilePlan, tile_count, part_count}
 use Rattle.merge_board.specs.Fits.{Opened}
 use Rattle.merge_board.specs.Board.{Shows}
 use Rattle.merge_board.specs.Seats.{SeatState, BoardState}
-use Rattle.merge_board.specs.Fields.{rule_of}
+use Rattle.merge_board.specs.RuleOfKey.{rule_of}
 use Rattle.merge_board.specs.declared.view.View.{View}
 use Rattle.merge_board.specs.declared.view.Key.{Key}
 

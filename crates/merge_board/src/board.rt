@@ -1,14 +1,14 @@
 ghost use Rattle.std.specs.Prelude.{◌≡◌, ◌≢◌, ℕ, ◌+◌, ◌-◌, ◌*◌, ◌^◌, ◌%◌, ◌<◌, ◌≤◌, [], ◌∷◌, None, Some, false, IfSome, IfNone};
-ghost use Rattle.tile_plan.specs.Plan.{IsPlan, part_count, root, mother, weight, sibling, side_of};
+ghost use Rattle.tile_plan.specs.Plan.{IsPlan, part_count, root, parent, weight, sibling, side_of};
 ghost use Rattle.merge_board.specs.Fits.{Fits};
 ghost use Rattle.merge_board.specs.Board.{door};
-ghost use Rattle.merge_board.specs.Plays.{AreTurns, ArrivesWith};
+ghost use Rattle.merge_board.specs.Steps.{AreTurns, ArrivesWith};
 ghost use Rattle.merge_board.specs.Seats.{IsSeatOf};
-ghost use Rattle.merge_board.specs.Calls.{HasDrawn, HasMissed, IsArrival, HandsHalves, HoldsHalves};
+ghost use Rattle.merge_board.specs.DrawsAndArrivals.{HasDrawn, HasMissed, IsArrival, HandsHalves, HoldsHalves};
 
 use crate::arrival::Arrival;
 use crate::place;
-use crate::rule::{Arriving, Drawing, Order};
+use crate::rule::{Arriving, Drawing, BoardRule};
 use crate::seat::{Seat, Token};
 use crate::view::{Key, View};
 use atomic_table::Table;
@@ -20,7 +20,7 @@ use tile_plan::{Plan, Side};
 /// The board of a plan: workers draw tiles from it and hand parts over on it. All of its steps go through `&self`.
 #[derive(Drop)]
 pub struct Board {
-    pub(crate) table: Table<Option<Part>, View, Key, Order, Global>,
+    pub(crate) table: Table<Option<Part>, View, Key, BoardRule, Global>,
     pub(crate) workers: u32,
 }
 
@@ -29,7 +29,7 @@ impl Model for Board {
 
     ghost Value = { BoardState };
 
-    ghost use Rattle.merge_board.specs.Fields.{board_of, IsBoardTable};
+    ghost use Rattle.merge_board.specs.BoardFields.{board_of, IsBoardTable};
 
     ghost view = { board_of };
 
@@ -80,8 +80,8 @@ impl Board {
             seat.hand = None;
             return Arrival::Waits;
         }
-        let (mother, _) = place::merge_above(plan, number);
-        seat.hand = Some(mother);
+        let (parent, _) = place::parent(plan, number);
+        seat.hand = Some(parent);
         self.take_halves(plan, &mut seat.token, number)
     }
 
@@ -114,11 +114,11 @@ impl Board {
         requires inner { number ≢ root self.now.plan }
         requires held { HoldsHalves self.now.plan number token.old.me.1 }
         ensures token { (token.new.table_id ≡ token.old.table_id) × (token.new.id ≡ token.old.id) }
-        ensures slots { token.new.me ≡ (token.old.me.0, (mother self.now.plan number, None) ∷ (sibling self.now.plan number, None) ∷ (number, None) ∷ []) }
+        ensures slots { token.new.me ≡ (token.old.me.0, (parent self.now.plan number, None) ∷ (sibling self.now.plan number, None) ∷ (number, None) ∷ []) }
         ensures halves { HandsHalves self.now.plan number result }
     {
         let shared = &self.table.shared;
-        let (mother, side) = place::merge_above(plan, number);
+        let (parent, side) = place::parent(plan, number);
         let sibling = place::sibling(plan, number);
         token.turn();
         let other = shared.exchange(token, sibling as usize, None);
@@ -130,12 +130,12 @@ impl Board {
         };
         match side {
             Side::Left => Arrival::Both {
-                number: mother,
+                number: parent,
                 left: own,
                 right: other,
             },
             Side::Right => Arrival::Both {
-                number: mother,
+                number: parent,
                 left: other,
                 right: own,
             },

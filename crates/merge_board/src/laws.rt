@@ -11,10 +11,10 @@ ghost use Rattle.border_climb.specs.Stands.{PartState};
 ghost use Rattle.merge_board.specs.Fits.{Fits};
 ghost use Rattle.merge_board.specs.Board.{IsPart, IsStatus, HasOneState, Shows, door};
 ghost use Rattle.merge_board.specs.Seats.{split_left, split_right, joined, left_over};
-ghost use Rattle.merge_board.specs.Fields.{rule_of, first_of};
+ghost use Rattle.merge_board.specs.RuleOfKey.{rule_of, first_of};
 ghost use Rattle.merge_board.specs.Opening.{AreOpened, KnowsNoDraw};
 ghost use Rattle.merge_board.specs.Exchanges.{IsOut, AreOut, SlotState, exchanged, with_slot};
-ghost use Rattle.merge_board.specs.Plays.{Hold, Draws, Arrives, AreBelow, AreTurns};
+ghost use Rattle.merge_board.specs.Steps.{Hold, Draws, Arrives, AreBelow, AreTurns};
 ghost use Rattle.merge_board.specs.declared.view.View.{View};
 ghost use Rattle.merge_board.specs.declared.view.Key.{Key};
 

@@ -1,16 +1,16 @@
 //! Where the parts of a plan stand on its board.
 ghost use Rattle.std.specs.Prelude.{◌≡◌, ◌≢◌, ◌<◌, ◌≤◌};
-ghost use Rattle.tile_plan.specs.Plan.{IsPlan, part_count, root, mother, weight, sibling, side_of, tile_count};
+ghost use Rattle.tile_plan.specs.Plan.{IsPlan, part_count, root, parent, weight, sibling, side_of, tile_count};
 ghost use Rattle.merge_board.specs.Board.{door};
 
 use tile_plan::{Plan, Side};
 
 // The merge above a part that is not the root, and which of its halves the part is.
-pub(crate) fn merge_above(plan: &Plan, number: u32) -> (u32, Side)
+pub(crate) fn parent(plan: &Plan, number: u32) -> (u32, Side)
     requires plan { IsPlan plan.now }
     requires part { number < part_count plan.now }
     requires inner { number ≢ root plan.now }
-    ensures mother { result.0 ≡ mother plan.now number }
+    ensures parent { result.0 ≡ parent plan.now number }
     ensures side { result.1 ≡ side_of (weight plan.now number) }
     ensures merge { tile_count plan.now ≤ result.0 }
     ensures last { result.0 < part_count plan.now }
@@ -28,8 +28,8 @@ pub(crate) fn sibling(plan: &Plan, number: u32) -> u32
     requires inner { number ≢ root plan.now }
     ensures { result ≡ sibling plan.now number }
 {
-    let (mother, side) = merge_above(plan, number);
-    let (left, right) = plan.children(mother);
+    let (parent, side) = parent(plan, number);
+    let (left, right) = plan.children(parent);
     match side {
         Side::Left => right,
         Side::Right => left,
@@ -46,8 +46,8 @@ pub(crate) fn door(plan: &Plan, number: u32) -> usize
     if number == plan.root() {
         return tiles as usize;
     }
-    let (mother, _) = merge_above(plan, number);
-    (mother + 1 - tiles) as usize
+    let (parent, _) = parent(plan, number);
+    (parent + 1 - tiles) as usize
 }
 
 // What a part's arrival adds: 1 for a left half and the root, 2 for a right half.
@@ -59,7 +59,7 @@ pub(crate) fn weight(plan: &Plan, number: u32) -> u64
     if number == plan.root() {
         return 1;
     }
-    match merge_above(plan, number).1 {
+    match parent(plan, number).1 {
         Side::Left => 1,
         Side::Right => 2,
     }

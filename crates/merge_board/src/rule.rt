@@ -1,5 +1,5 @@
-ghost use Rattle.merge_board.specs.Fields.{rule_of, first_of};
-ghost use Rattle.merge_board.specs.Plays.{Draws, Arrives};
+ghost use Rattle.merge_board.specs.RuleOfKey.{rule_of, first_of};
+ghost use Rattle.merge_board.specs.Steps.{Draws, Arrives};
 ghost use Rattle.merge_board.specs.Seats.{split_left, split_right, joined, left_over};
 
 use crate::view::{Key, View};
@@ -7,9 +7,9 @@ use atomic_table::{Join, Play, Split, TableRule};
 use border_climb::Part;
 
 // The rule of the board.
-pub(crate) struct Order;
+pub(crate) struct BoardRule;
 
-impl TableRule<Option<Part>, View, Key> for Order {
+impl TableRule<Option<Part>, View, Key> for BoardRule {
     ghost holds = { rule_of };
 
     ghost first = { first_of };

@@ -21,7 +21,7 @@ impl Model for Seat {
 
     ghost Value = { SeatState };
 
-    ghost use Rattle.merge_board.specs.Fields.{seat_of, IsSeat};
+    ghost use Rattle.merge_board.specs.SeatFields.{seat_of, IsSeat};
 
     ghost view = { seat_of };
 

@@ -9,7 +9,7 @@ use Rattle.hg_base.proofs.Sets.{same_test}
 use Rattle.tile_plan.specs.Merges.{MergeTree, Tile, Merge, half, IsCut, tiles, tile_at}
 use Rattle.tile_plan.specs.Sites.{is_lot_of, find}
 use Rattle.tile_plan.specs.Grids.{tiles_in, tree_in, part_in, lot_in, root_of}
-use Rattle.tile_plan.specs.Frames.{IsFrame, grid_in, home_in, vertices_in}
+use Rattle.tile_plan.specs.TiledPictures.{IsFrame, grid_in, home_in, vertices_in}
 use Rattle.std.proofs.lemmas.List.{length-map}
 use Rattle.tile_plan.specs.declared.site.Grid.{Grid}
 use Rattle.tile_plan.specs.declared.plan.Lots.{Lots}
@@ -22,7 +22,7 @@ use Rattle.tile_plan.proofs.Laying.{tree_in-is, tree_in-tiles, grid-columns, gri
 use Rattle.tile_plan.proofs.Counting.{start_by-agree, place_by-agree, start-mono, start-le}
 use Rattle.tile_plan.proofs.Growing.{IsTable-agree}
 use Rattle.tile_plan.proofs.LotNumbers.{lot-only, lot-found}
-use Rattle.tile_plan.proofs.Mothers.{plan-tiles, plan-has}
+use Rattle.tile_plan.proofs.Parents.{plan-tiles, plan-has}
 
 -- the tile at a column and a row is one of the tree's
 pub tile_at-below : (c r : ℕ) (t : MergeTree) (column row : ℕ) → IsCut c r t → column < c → row < r → tile_at t column row < tiles t

@@ -6,13 +6,13 @@ use Rattle.hg_base.specs.Graph.{WeightedGraph}
 use Rattle.tile_plan.specs.Merges.{MergeTree, Tile, Merge, half, IsCut, tiles, tile_at}
 use Rattle.tile_plan.specs.Sites.{Part}
 use Rattle.tile_plan.specs.Grids.{tree_in}
-use Rattle.tile_plan.specs.Frames.{grid_in, home_in}
+use Rattle.tile_plan.specs.TiledPictures.{grid_in, home_in}
 use Rattle.tile_plan.specs.Plan.{TilePlan, IsPlan, blocks, grid_of, home, part, root}
 use Rattle.tile_plan.specs.declared.frame.Frame.{Frame}
 use Rattle.tile_plan.proofs.Cuts.{tiles-cut}
 use Rattle.tile_plan.proofs.Descents.{lt-true, lt-false}
 use Rattle.tile_plan.proofs.Laying.{tree_in-is, grid-columns, grid-rows, block-few, vertex-column}
-use Rattle.tile_plan.proofs.Mothers.{root-part}
+use Rattle.tile_plan.proofs.Parents.{root-part}
 
 -- the tree of the root cuts the grid
 pub root-cut : (p : TilePlan) → IsPlan p → IsCut (grid_of p).columns (grid_of p).rows (part p (root p)).tree

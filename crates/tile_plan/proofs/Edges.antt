@@ -16,7 +16,7 @@ use Rattle.tile_plan.specs.Laws.{JoinsHalves, Crosses, HasEdges}
 use Rattle.tile_plan.proofs.Cuts.{tiles-some}
 use Rattle.tile_plan.proofs.Parts.{Has, Has-number, found, Within, own, post-has, halves-apart, Has-within, Within-left, Within-right}
 use Rattle.tile_plan.proofs.LotNumbers.{lot-only, lot-found, Parted, lot-inside, tile-within, merge-lot}
-use Rattle.tile_plan.proofs.Mothers.{HalvesAt, halves-at, plan-tiles, plan-has, has-below, is_part, part-fits}
+use Rattle.tile_plan.proofs.Parents.{HalvesAt, halves-at, plan-tiles, plan-has, has-below, is_part, part-fits}
 use Rattle.tile_plan.proofs.Agreeing.{home-below}
 use Rattle.tile_plan.proofs.Ranges.{place-covers, places-once, places-below}
 use Rattle.tile_plan.proofs.Reading.{IsIn-renamed_back, lot-rising}

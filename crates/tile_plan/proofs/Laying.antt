@@ -9,7 +9,7 @@ use Rattle.std.proofs.lemmas.Grind.{div_ceil_times}
 use Rattle.tile_plan.specs.Merges.{MergeTree, Tile, Merge, half, cut, merge_tree, IsCut, tiles, merges, tile_at}
 use Rattle.tile_plan.specs.Sites.{left_site, right_site, find}
 use Rattle.tile_plan.specs.Grids.{tiles_in, IsSmall, IsTreeOf, row_of_part, root_of, tree_in, part_in, tile_in, lot_number, lot_in}
-use Rattle.tile_plan.specs.Frames.{vertices_in, grid_in, home_in, IsFrame}
+use Rattle.tile_plan.specs.TiledPictures.{vertices_in, grid_in, home_in, IsFrame}
 use Rattle.tile_plan.specs.declared.site.Grid.{Grid}
 use Rattle.tile_plan.specs.declared.site.Site.{Site}
 use Rattle.tile_plan.specs.declared.site.Row.{Row}

@@ -5,7 +5,7 @@ pub mod Growing
 pub mod Laying
 pub mod Scatter
 pub mod Parts
-pub mod Mothers
+pub mod Parents
 pub mod LotNumbers
 pub mod Agreeing
 pub mod Ranges

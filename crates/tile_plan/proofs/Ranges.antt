@@ -11,7 +11,7 @@ use Rattle.hg_base.specs.Edges.{IsOneToOne}
 use Rattle.tile_plan.specs.Merges.{MergeTree, Tile, Merge, half, IsCut, tiles, tile_at}
 use Rattle.tile_plan.specs.Sites.{Part, number, left_site, right_site, find, post_order}
 use Rattle.tile_plan.specs.Grids.{tree_in, root_of, part_in}
-use Rattle.tile_plan.specs.Frames.{grid_in, home_in}
+use Rattle.tile_plan.specs.TiledPictures.{grid_in, home_in}
 use Rattle.tile_plan.specs.Placing.{start_by}
 use Rattle.tile_plan.specs.declared.site.Site.{Site}
 use Rattle.tile_plan.specs.Plan.{TilePlan, IsPlan, IsLargestFrom, grid_of, tile_count, part, part_count, vertices, home, place_of, start, first_tile, tiles_of, post, lot_edges, edges_at, room_tiles}
@@ -21,7 +21,7 @@ use Rattle.tile_plan.proofs.Descents.{lt-true, lt-false}
 use Rattle.tile_plan.proofs.Laying.{tree_in-is, grid-columns, grid-rows}
 use Rattle.tile_plan.proofs.Counting as counting
 use Rattle.tile_plan.proofs.Parts.{Has, where_is, find-self, left-finds, right-finds, Has-number, Has-within, Within-left, Within-right, first-room, own}
-use Rattle.tile_plan.proofs.Mothers.{IsPart, plan-tiles, plan-has, has-below, is_part, part-fits}
+use Rattle.tile_plan.proofs.Parents.{IsPart, plan-tiles, plan-has, has-below, is_part, part-fits}
 
 -- each tile of a tree is at some column and row
 record IsAt (c r : ℕ) (t : MergeTree) (k : ℕ) : Type 0 where

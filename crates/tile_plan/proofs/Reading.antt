@@ -11,14 +11,14 @@ use Rattle.tile_plan.proofs.Cuts.{tiles-some}
 use Rattle.tile_plan.specs.Sites.{is_lot_of}
 use Rattle.tile_plan.specs.Grids.{tree_in, part_in, rows_of, row_of_part}
 use Rattle.tile_plan.specs.Placing.{IsTable}
-use Rattle.tile_plan.specs.Plan.{TilePlan, IsPlan, grid_of, tile_count, part_count, root, vertices, part, home, place_of, start, left, right, mother, weight, first_tile, tiles_of, parent, room_tiles, lot_between_vertices, lot_edges}
+use Rattle.tile_plan.specs.Plan.{TilePlan, IsPlan, grid_of, tile_count, part_count, root, vertices, part, home, place_of, start, left, right, parent, weight, first_tile, tiles_of, parent, room_tiles, lot_between_vertices, lot_edges}
 use Rattle.tile_plan.specs.PlanFields.{HoldsPlaces, HoldsLots, HoldsPlan, plan_of}
 use Rattle.tile_plan.specs.declared.site.Row.{Row}
 use Rattle.tile_plan.specs.declared.site.Side.{Side}
 use Rattle.tile_plan.specs.declared.site.Side.TheVariants as sides
 use Rattle.tile_plan.specs.declared.plan.Plan.TheInside.{Inside}
 use Rattle.tile_plan.proofs.Descents.{eq-false}
-use Rattle.tile_plan.proofs.Mothers.{plan-tiles}
+use Rattle.tile_plan.proofs.Parents.{plan-tiles}
 use Rattle.hg_base.proofs.Pigeons.{Into, misses_none}
 use Rattle.hg_base.proofs.Counts.{least_below}
 use Rattle.tile_plan.specs.declared.plan.Places.{Places}
@@ -45,7 +45,7 @@ rows-length q rows same = ap length same ∙ length-map-range_with_len (λ i. ro
 -- a row of it
 pub record IsRow (q : TilePlan) (i : ℕ) (row : Row) : Type 0 where
   pub first_tile : row.site.first_tile ≡ first_tile q i
-  pub mother : row.site.mother ≡ mother q i
+  pub parent : row.site.parent ≡ parent q i
   pub weight : row.site.weight ≡ weight q i
   pub room : row.site.room ≡ (part q i).site.room
   pub tiles : row.tiles ≡ tiles_of q i
@@ -59,7 +59,7 @@ row-read q i rows row same l read =
     read ∙ ap (λ (xs : List Row). get_or xs i row) same ∙ get_or-map-range_with_len (λ j. row_of_part (tile_count q) (part_in (grid_of q) j)) 0 (part_count q) i i row l (omega arith) in
     record {
       first_tile = ap (λ (r : Row). r.site.first_tile) is;
-      mother = ap (λ (r : Row). r.site.mother) is;
+      parent = ap (λ (r : Row). r.site.parent) is;
       weight = ap (λ (r : Row). r.site.weight) is;
       room = ap (λ (r : Row). r.site.room) is;
       tiles = ap (λ (r : Row). r.tiles) is;
@@ -122,11 +122,11 @@ vertex-found q place v p h hp l before found =
     ]
 
 -- the parent of a part that isn't the root
-pub parent-left : (q : TilePlan) (i : ℕ) (row : Row) → IsRow q i row → (i ≡ root q → ⊥) → row.site.weight ≡ 1 → ◌≡◌ {A = Option (ℕ × Side)} (Some (row.site.mother, sides.Left)) (parent q i)
-parent-left q i row h off one = rw (eq-false i (root q) off, ← h.mother, eq-eqb (weight q i) 1 (sym h.weight ∙ one)) refl
+pub parent-left : (q : TilePlan) (i : ℕ) (row : Row) → IsRow q i row → (i ≡ root q → ⊥) → row.site.weight ≡ 1 → ◌≡◌ {A = Option (ℕ × Side)} (Some (row.site.parent, sides.Left)) (parent q i)
+parent-left q i row h off one = rw (eq-false i (root q) off, ← h.parent, eq-eqb (weight q i) 1 (sym h.weight ∙ one)) refl
 
-pub parent-right : (q : TilePlan) (i : ℕ) (row : Row) → IsRow q i row → (i ≡ root q → ⊥) → (row.site.weight ≡ 1 → ⊥) → ◌≡◌ {A = Option (ℕ × Side)} (Some (row.site.mother, sides.Right)) (parent q i)
-parent-right q i row h off two = rw (eq-false i (root q) off, ← h.mother, eq-false (weight q i) 1 (λ e. two (h.weight ∙ e))) refl
+pub parent-right : (q : TilePlan) (i : ℕ) (row : Row) → IsRow q i row → (i ≡ root q → ⊥) → (row.site.weight ≡ 1 → ⊥) → ◌≡◌ {A = Option (ℕ × Side)} (Some (row.site.parent, sides.Right)) (parent q i)
+parent-right q i row h off two = rw (eq-false i (root q) off, ← h.parent, eq-false (weight q i) 1 (λ e. two (h.weight ∙ e))) refl
 
 -- the room of a tile stays among the tiles
 pub room-at : (q : TilePlan) (t : ℕ) → IsPlan q → t < tile_count q → t + room_tiles q t ≤ tile_count q

@@ -9,7 +9,7 @@ use Rattle.tile_plan.specs.Sites.{Part, post_order}
 use Rattle.tile_plan.specs.Grids.{tree_in, root_of}
 use Rattle.tile_plan.specs.Plan.{TilePlan, IsPlan, grid_of, tile_count, part_count, root, vertices, place_of, post, lot_between_vertices, lot_edges, edges_at}
 use Rattle.tile_plan.proofs.Parts.{has-post}
-use Rattle.tile_plan.proofs.Mothers.{plan-has, root-part}
+use Rattle.tile_plan.proofs.Parents.{plan-has, root-part}
 use Rattle.tile_plan.proofs.Ranges.{places-once}
 use Rattle.tile_plan.proofs.Reading.{IsIn-renamed, IsIn-renamed_back, some-tile}
 use Rattle.tile_plan.proofs.Edges.{IsIn-flat_map, AreApart-rising, lot-edge, lot-of-edge, edge-below, has_edges}

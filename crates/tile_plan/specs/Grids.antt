@@ -2,7 +2,7 @@
 use Rattle.std.specs.Prelude.{◌≡◌, ℕ, ◌+◌, ◌*◌, ◌≤◌, ◌-◌, ◌/◌, ◌%◌, ◌&&◌, List, map, nat_lt, nat_le, if◌then◌else◌}
 use Rattle.std.specs.List.{range_with_len}
 use Rattle.tile_plan.specs.Merges.{MergeTree, Tile, Merge, half, merge_tree, IsCut, tiles, merges, tile_at}
-use Rattle.tile_plan.specs.Sites.{Part, find, left_site, right_site, left_of, right_of}
+use Rattle.tile_plan.specs.Sites.{Part, find, left_site, right_site, left_number, right_number}
 use Rattle.tile_plan.specs.declared.site.Grid.{Grid}
 use Rattle.tile_plan.specs.declared.site.Site.{Site}
 use Rattle.tile_plan.specs.declared.site.Row.{Row}
@@ -51,8 +51,8 @@ abbrev pub row_of_part : ℕ → Part → Row
 row_of_part n p = record {
   site = p.site;
   tiles = tiles p.tree;
-  left = left_of n p.tree p.site;
-  right = right_of n p.tree p.site;
+  left = left_number n p.tree p.site;
+  right = right_number n p.tree p.site;
 }
 
 -- the part whose lot an edge between tiles a and b is in, by descent: the half in which both are, the tile at last,
@@ -64,9 +64,9 @@ lot_number n (Merge by k x y) s a b =
     (if nat_le (s.first_tile + tiles x) a && nat_le (s.first_tile + tiles x) b then lot_number n y (right_site n x y s) a b
     else n + s.first_merge + merges x + merges y)
 
--- where the root of a plan of n tiles stands; its mother is a part of its own, beyond the last
+-- where the root of a plan of n tiles stands; its parent is a part of its own, beyond the last
 abbrev pub root_of : ℕ → Site
-root_of n = record { first_tile = 0; first_merge = 0; mother = 2 * n - 1; weight = 1; room = n }
+root_of n = record { first_tile = 0; first_merge = 0; parent = 2 * n - 1; weight = 1; room = n }
 
 -- the tree of merges of a grid
 abbrev pub tree_in : Grid → MergeTree

@@ -2,29 +2,29 @@
 use Rattle.std.specs.Prelude.{◌≡◌, ◌≢◌, ℕ, ◌+◌, ◌-◌, ◌*◌, ◌<◌, ◌≤◌, ◌⊎◌, ◌↔◌, [], ◌∷◌, ◌++◌}
 use Rattle.hg_base.specs.Edges.{ListedEdge, IsIn, AreApart}
 use Rattle.hg_base.specs.Rising.{IsRising}
-use Rattle.tile_plan.specs.Plan.{TilePlan, IsEdgeAmong, vertices, tile_count, part_count, root, first_tile, tiles_of, left, right, mother, weight, sibling, first_place, end_place, IsPlaceOf, post, place_of, home, lot_edges, edges_at, room_tiles}
+use Rattle.tile_plan.specs.Plan.{TilePlan, IsEdgeAmong, vertices, tile_count, part_count, root, first_tile, tiles_of, left, right, parent, weight, sibling, first_place, end_place, IsPlaceOf, post, place_of, home, lot_edges, edges_at, room_tiles}
 
--- the mother of a part, and which half of it the part is: 1 for the left one, 2 for the right one
-pub record HasMother (p : TilePlan) (i : ℕ) : Type 0 where
-  pub later : i < mother p i
-  pub merge : tile_count p ≤ mother p i
+-- the parent of a part, and which half of it the part is: 1 for the left one, 2 for the right one
+pub record HasParent (p : TilePlan) (i : ℕ) : Type 0 where
+  pub later : i < parent p i
+  pub merge : tile_count p ≤ parent p i
   pub some : 1 ≤ weight p i
   pub two : weight p i ≤ 2
-  pub inner : i ≢ root p → mother p i < part_count p
-  pub left_half : i ≢ root p → weight p i ≡ 1 → left p (mother p i) ≡ i
-  pub right_half : i ≢ root p → weight p i ≡ 2 → right p (mother p i) ≡ i
+  pub inner : i ≢ root p → parent p i < part_count p
+  pub left_half : i ≢ root p → weight p i ≡ 1 → left p (parent p i) ≡ i
+  pub right_half : i ≢ root p → weight p i ≡ 2 → right p (parent p i) ≡ i
   pub sibling_below : i ≢ root p → sibling p i < part_count p
-  pub sibling_mother : i ≢ root p → mother p (sibling p i) ≡ mother p i
+  pub sibling_parent : i ≢ root p → parent p (sibling p i) ≡ parent p i
   pub sibling_weight : i ≢ root p → weight p (sibling p i) + weight p i ≡ 3
-  pub root_mother : i ≡ root p → mother p i ≡ 2 * tile_count p - 1
+  pub root_parent : i ≡ root p → parent p i ≡ 2 * tile_count p - 1
   pub root_weight : i ≡ root p → weight p i ≡ 1
 
 -- the halves of merge m: who they are, and that their tiles and places follow each other
 pub record HasHalves (p : TilePlan) (m : ℕ) : Type 0 where
   pub left_below : left p m < m
   pub right_below : right p m < m
-  pub left_mother : mother p (left p m) ≡ m
-  pub right_mother : mother p (right p m) ≡ m
+  pub left_parent : parent p (left p m) ≡ m
+  pub right_parent : parent p (right p m) ≡ m
   pub left_weight : weight p (left p m) ≡ 1
   pub right_weight : weight p (right p m) ≡ 2
   pub left_first : first_tile p (left p m) ≡ first_tile p m
@@ -32,7 +32,7 @@ pub record HasHalves (p : TilePlan) (m : ℕ) : Type 0 where
   pub tiles : tiles_of p (left p m) + tiles_of p (right p m) ≡ tiles_of p m
   pub left_place : first_place p (left p m) ≡ first_place p m
   pub right_place : first_place p (right p m) ≡ end_place p (left p m)
-  pub end_ : end_place p (right p m) ≡ end_place p m
+  pub right_end : end_place p (right p m) ≡ end_place p m
 
 -- the parts and the edges at and below merge m are those of its halves, then itself and its lot
 pub record JoinsHalves (p : TilePlan) (m : ℕ) : Type 0 where

@@ -1,7 +1,7 @@
 pub mod Merges
 pub mod Sites
 pub mod Grids
-pub mod Frames
+pub mod TiledPictures
 pub mod Placing
 pub mod Dealing
 pub mod Plan

@@ -6,9 +6,9 @@ use Rattle.hg_base.specs.Rank.{ranked}
 use Rattle.hg_base.specs.Edges.{ListedEdge, EdgeList, IsIn, renamed}
 use Rattle.hg_base.specs.Rising.{IsRising}
 use Rattle.tile_plan.specs.Merges.{tiles}
-use Rattle.tile_plan.specs.Sites.{Part, post_order, is_lot_of, left_of, right_of}
+use Rattle.tile_plan.specs.Sites.{Part, post_order, is_lot_of, left_number, right_number}
 use Rattle.tile_plan.specs.Grids.{tiles_in, part_in}
-use Rattle.tile_plan.specs.Frames.{vertices_in, grid_in, home_in, IsFrame}
+use Rattle.tile_plan.specs.TiledPictures.{vertices_in, grid_in, home_in, IsFrame}
 use Rattle.tile_plan.specs.Placing.{place_by, start_by}
 use Rattle.tile_plan.specs.declared.site.Grid.{Grid}
 use Rattle.tile_plan.specs.declared.frame.Frame.{Frame}
@@ -76,15 +76,15 @@ tiles_of p i = tiles (part p i).tree
 
 -- the left half of a merge
 abbrev pub left : TilePlan → ℕ → ℕ
-left p i = left_of (tile_count p) (part p i).tree (part p i).site
+left p i = left_number (tile_count p) (part p i).tree (part p i).site
 
 -- the right half
 abbrev pub right : TilePlan → ℕ → ℕ
-right p i = right_of (tile_count p) (part p i).tree (part p i).site
+right p i = right_number (tile_count p) (part p i).tree (part p i).site
 
--- the merge whose half a part is; the root's mother is beyond the last part
-abbrev pub mother : TilePlan → ℕ → ℕ
-mother p i = (part p i).site.mother
+-- the merge whose half a part is; the root's parent is beyond the last part
+abbrev pub parent : TilePlan → ℕ → ℕ
+parent p i = (part p i).site.parent
 
 -- which half of it: 1 for the left one, 2 for the right one; the root's weight is 1
 abbrev pub weight : TilePlan → ℕ → ℕ
@@ -92,15 +92,15 @@ weight p i = (part p i).site.weight
 
 -- the other half of the same merge
 abbrev pub sibling : TilePlan → ℕ → ℕ
-sibling p i = if weight p i == 1 then right p (mother p i) else left p (mother p i)
+sibling p i = if weight p i == 1 then right p (parent p i) else left p (parent p i)
 
 -- a weight as a side
 abbrev pub side_of : ℕ → Side
 side_of w = if w == 1 then sides.Left else sides.Right
 
 -- the merge above a part, and the side on which it stands
-abbrev pub parent : TilePlan → ℕ → Option (ℕ × Side)
-parent p i = if i == root p then None else Some (mother p i, side_of (weight p i))
+abbrev pub parent_and_side : TilePlan → ℕ → Option (ℕ × Side)
+parent_and_side p i = if i == root p then None else Some (parent p i, side_of (weight p i))
 
 -- the first place of a part
 abbrev pub first_place : TilePlan → ℕ → ℕ

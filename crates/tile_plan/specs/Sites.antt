@@ -18,7 +18,7 @@ abbrev pub left_site : ℕ → MergeTree → MergeTree → Site → Site
 left_site n x y s = record {
   first_tile = s.first_tile;
   first_merge = s.first_merge;
-  mother = n + s.first_merge + merges x + merges y;
+  parent = n + s.first_merge + merges x + merges y;
   weight = 1;
   room = s.room;
 }
@@ -28,7 +28,7 @@ abbrev pub right_site : ℕ → MergeTree → MergeTree → Site → Site
 right_site n x y s = record {
   first_tile = s.first_tile + tiles x;
   first_merge = s.first_merge + merges x;
-  mother = n + s.first_merge + merges x + merges y;
+  parent = n + s.first_merge + merges x + merges y;
   weight = 2;
   room = tiles y;
 }
@@ -63,11 +63,11 @@ is_lot_of (Merge by k x y) s a b =
     || (is_among s.first_tile (tiles x) b && is_among (s.first_tile + tiles x) (tiles y) a)
 
 -- the number of the left half of a part, 0 for a tile
-abbrev pub left_of : ℕ → MergeTree → Site → ℕ
-left_of n Tile s = 0
-left_of n (Merge by k x y) s = number n x (left_site n x y s)
+abbrev pub left_number : ℕ → MergeTree → Site → ℕ
+left_number n Tile s = 0
+left_number n (Merge by k x y) s = number n x (left_site n x y s)
 
 -- the number of the right half
-abbrev pub right_of : ℕ → MergeTree → Site → ℕ
-right_of n Tile s = 0
-right_of n (Merge by k x y) s = number n y (right_site n x y s)
+abbrev pub right_number : ℕ → MergeTree → Site → ℕ
+right_number n Tile s = 0
+right_number n (Merge by k x y) s = number n y (right_site n x y s)

@@ -4,7 +4,7 @@ ghost use Rattle.std.specs.Thread.{IsSync};
 ghost use Rattle.hg_base.specs.declared.graph.PlacedEdge.{PlacedEdge};
 ghost use Rattle.edge_order.specs.Order.{number_at_rank};
 ghost use Rattle.tile_plan.specs.Grids.{IsSmall, tile_in, tiles_in};
-ghost use Rattle.tile_plan.specs.Frames.{grid_in, home_in, IsFrame, vertices_in};
+ghost use Rattle.tile_plan.specs.TiledPictures.{grid_in, home_in, IsFrame, vertices_in};
 ghost use Rattle.tile_plan.specs.Placing.{AreKeys, IsTable};
 ghost use Rattle.tile_plan.specs.Dealing.{IsLotOf, laid};
 

@@ -1,6 +1,6 @@
 ghost use Rattle.std.specs.Prelude.{◌≡◌, ◌≤◌, ◌*◌};
 ghost use Rattle.tile_plan.specs.Grids.{IsSmall, tiles_in};
-ghost use Rattle.tile_plan.specs.Frames.{grid_in, IsFrame};
+ghost use Rattle.tile_plan.specs.TiledPictures.{grid_in, IsFrame};
 
 use crate::site::Grid;
 use hg_base::Graph;

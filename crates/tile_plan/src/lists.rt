@@ -5,7 +5,7 @@ ghost use Rattle.hg_base.specs.Edges.{ListedEdge, IsIn, renamed};
 ghost use Rattle.hg_base.specs.Placed.{placed};
 ghost use Rattle.hg_base.specs.Rising.{IsRising};
 ghost use Rattle.tile_plan.specs.Grids.{IsSmall, lot_in, tile_in, tiles_in};
-ghost use Rattle.tile_plan.specs.Frames.{grid_in, home_in, IsFrame, vertices_in};
+ghost use Rattle.tile_plan.specs.TiledPictures.{grid_in, home_in, IsFrame, vertices_in};
 ghost use Rattle.tile_plan.specs.Placing.{AreKeys, IsTable, start_by};
 ghost use Rattle.tile_plan.specs.Plan.{IsEdgeAmong};
 

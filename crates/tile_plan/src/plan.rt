@@ -4,9 +4,9 @@ ghost use Rattle.hg_base.specs.Placed.{placed};
 ghost use Rattle.hg_base.specs.Rising.{IsRising};
 ghost use Rattle.edge_order.specs.Order.{order_of};
 ghost use Rattle.tile_plan.specs.Grids.{IsSmall, tiles_in};
-ghost use Rattle.tile_plan.specs.Frames.{IsFrame, grid_in, vertices_in};
+ghost use Rattle.tile_plan.specs.TiledPictures.{IsFrame, grid_in, vertices_in};
 ghost use Rattle.tile_plan.specs.Placing.{AreKeys, IsTable};
-ghost use Rattle.tile_plan.specs.Plan.{TilePlan, IsAnswer, IsEdgeAmong, IsLargestFrom, IsPlan, blocks, end_place, first_place, grid_of, home, left, lot_edges, parent, place_of, right, room_places, room_tiles, root, squares, tile_count, vertices};
+ghost use Rattle.tile_plan.specs.Plan.{TilePlan, IsAnswer, IsEdgeAmong, IsLargestFrom, IsPlan, blocks, end_place, first_place, grid_of, home, left, lot_edges, parent_and_side, place_of, right, room_places, room_tiles, root, squares, tile_count, vertices};
 ghost use Rattle.tile_plan.specs.PlanFields.{HoldsLots, HoldsPlaces};
 
 use crate::fault::PlanFault;
@@ -263,14 +263,14 @@ impl Plan {
     /// The merge of which a part is a half, and which half it is. The root has none.
     pub fn parent(&self, p: u32) -> Option<(u32, Side)>
         requires { p ≤ root self.now }
-        ensures { result ≡ parent self.now p }
+        ensures { result ≡ parent_and_side self.now p }
     {
         if p == self.root() {
             return None;
         }
-        let Site { mother, weight, .. } = self.rows[p as usize].site;
+        let Site { parent, weight, .. } = self.rows[p as usize].site;
         let side = if weight == 1 { Side::Left } else { Side::Right };
-        Some((mother, side))
+        Some((parent, side))
     }
 
     /// The edges that a part takes in, between places, in rising rank: those with both ends in a tile, or with one

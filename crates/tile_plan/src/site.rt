@@ -17,13 +17,13 @@ pub(crate) struct Grid {
     pub(crate) rows: u32,
 }
 
-// Where a part stands: its first tile, how many merges are numbered before those in it, its mother, which half of it
+// Where a part stands: its first tile, how many merges are numbered before those in it, its parent, which half of it
 // the part is, and how many tiles the largest part with the same first tile has.
 #[derive(Clone, Copy)]
 pub(crate) struct Site {
     pub(crate) first_tile: u32,
     pub(crate) first_merge: u32,
-    pub(crate) mother: u32,
+    pub(crate) parent: u32,
     pub(crate) weight: u32,
     pub(crate) room: u32,
 }
@@ -117,7 +117,7 @@ impl Grid {
 }
 
 // The number of a part in a plan of `n` tiles.
-fn number_of(n: u32, grid: Grid, site: Site) -> u32
+fn number(n: u32, grid: Grid, site: Site) -> u32
     requires small { IsSmall grid }
     requires sited { IsSited n grid site }
     ensures { (t : MergeTree) → IsTreeOf grid t → result ≡ number n t site }
@@ -131,27 +131,27 @@ fn number_of(n: u32, grid: Grid, site: Site) -> u32
 }
 
 // Where the left half of a merge stands.
-fn left_of(site: Site, mother: u32) -> Site
-    ensures same { result ≡ record { first_tile = site.first_tile; first_merge = site.first_merge; mother = mother; weight = 1; room = site.room } }
+fn left_site(site: Site, parent: u32) -> Site
+    ensures same { result ≡ record { first_tile = site.first_tile; first_merge = site.first_merge; parent = parent; weight = 1; room = site.room } }
 {
     Site {
-        mother,
+        parent,
         weight: 1,
         ..site
     }
 }
 
 // Where the right half of a merge stands, by the tiles of both halves.
-fn right_of(site: Site, mother: u32, first: u32, second: u32) -> Site
+fn right_site(site: Site, parent: u32, first: u32, second: u32) -> Site
     requires some { 1 ≤ first }
     requires tile { site.first_tile + first ≤ 65536 }
     requires merge { site.first_merge ≤ site.first_tile }
-    ensures { result ≡ record { first_tile = site.first_tile + first; first_merge = site.first_merge + (first - 1); mother = mother; weight = 2; room = second } }
+    ensures { result ≡ record { first_tile = site.first_tile + first; first_merge = site.first_merge + (first - 1); parent = parent; weight = 2; room = second } }
 {
     Site {
         first_tile: site.first_tile + first,
         first_merge: site.first_merge + (first - 1),
-        mother,
+        parent,
         weight: 2,
         room: second,
     }
@@ -178,7 +178,7 @@ pub(crate) fn find(n: u32, grid: Grid, site: Site, p: u32) -> Row
     requires sited { IsSited n grid site }
     ensures { (t : MergeTree) → IsTreeOf grid t → result ≡ row_of_part n (find n t site p) }
 {
-    let own = number_of(n, grid, site);
+    let own = number(n, grid, site);
     let tiles = grid.tiles();
     if tiles == 1 {
         return Row {
@@ -189,14 +189,14 @@ pub(crate) fn find(n: u32, grid: Grid, site: Site, p: u32) -> Row
         };
     }
     let (first, second) = grid.halves();
-    let left = left_of(site, own);
-    let right = right_of(site, own, first.tiles(), second.tiles());
+    let left = left_site(site, own);
+    let right = right_site(site, own, first.tiles(), second.tiles());
     if p == own {
         Row {
             site,
             tiles,
-            left: number_of(n, first, left),
-            right: number_of(n, second, right),
+            left: number(n, first, left),
+            right: number(n, second, right),
         }
     } else if is_left(n, first.tiles(), site, p) {
         find(n, first, left, p)
@@ -211,16 +211,16 @@ pub(crate) fn lot_of(n: u32, grid: Grid, site: Site, a: u32, b: u32) -> u32
     requires sited { IsSited n grid site }
     ensures { (t : MergeTree) → IsTreeOf grid t → result ≡ lot_number n t site a b }
 {
-    let own = number_of(n, grid, site);
+    let own = number(n, grid, site);
     if grid.tiles() == 1 {
         return own;
     }
     let (first, second) = grid.halves();
     let border = site.first_tile + first.tiles();
     if a < border && b < border {
-        lot_of(n, first, left_of(site, own), a, b)
+        lot_of(n, first, left_site(site, own), a, b)
     } else if border <= a && border <= b {
-        let right = right_of(site, own, first.tiles(), second.tiles());
+        let right = right_site(site, own, first.tiles(), second.tiles());
         lot_of(n, second, right, a, b)
     } else {
         own

@@ -5,7 +5,7 @@ ghost use Rattle.hg_base.specs.Edges.{ListedEdge, IsIn, renamed};
 ghost use Rattle.hg_base.specs.Placed.{placed};
 ghost use Rattle.hg_base.specs.Rising.{IsRising};
 ghost use Rattle.tile_plan.specs.Grids.{IsSmall, lot_in, root_of, rows_of, tile_in, tiles_in};
-ghost use Rattle.tile_plan.specs.Frames.{grid_in, home_in, IsFrame, vertices_in};
+ghost use Rattle.tile_plan.specs.TiledPictures.{grid_in, home_in, IsFrame, vertices_in};
 ghost use Rattle.tile_plan.specs.Placing.{AreKeys, IsTable, start_by};
 ghost use Rattle.tile_plan.specs.Plan.{IsEdgeAmong};
 ghost use Rattle.tile_plan.specs.Dealing.{IsLotOf, laid};
@@ -27,7 +27,7 @@ fn root(n: u32) -> Site
     Site {
         first_tile: 0,
         first_merge: 0,
-        mother: 2 * n - 1,
+        parent: 2 * n - 1,
         weight: 1,
         room: n,
     }

@@ -1,5 +1,5 @@
 use Rattle.std.proofs.Common.{rules, ◌≡◌, true, None, arith}
-use Rattle.merge_board.proofs.Held.{idle_turns}
+use Rattle.merge_board.proofs.HeldSlots.{idle_turns}
 use Rattle.merge_board.proofs.Joining.{may_join}
 use Rattle.merge_board.proofs.receipt.take_in.Goals as goal
 

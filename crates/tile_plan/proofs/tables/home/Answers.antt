@@ -2,7 +2,7 @@ use Rattle.std.proofs.Common.{◌≡◌, ℕ, ◌<◌, ◌+◌, ◌*◌, ◌/◌
 use Rattle.tile_plan.specs.declared.site.Grid.{Grid}
 use Rattle.tile_plan.specs.declared.frame.Frame.{Frame}
 use Rattle.tile_plan.specs.Grids.{tiles_in, tile_in}
-use Rattle.tile_plan.specs.Frames.{grid_in, home_in, IsFrame, vertices_in}
+use Rattle.tile_plan.specs.TiledPictures.{grid_in, home_in, IsFrame, vertices_in}
 use Rattle.tile_plan.proofs.Laying.{vertex-place, vertex-tile}
 use Rattle.tile_plan.proofs.tables.home.Goals as goal
 

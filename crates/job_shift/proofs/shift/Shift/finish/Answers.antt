@@ -1,7 +1,7 @@
 use Rattle.std.proofs.Common.{rules, ◌≡◌, ◌<◌, ℕ, List, ap, sym, subst, ◌∙◌, length, arith}
 use Rattle.std.specs.Prelude.{slice_index}
 use Rattle.job_shift.specs.Hands.{HandState}
-use Rattle.job_shift.specs.Calls.{IsHandedTo}
+use Rattle.job_shift.specs.HandedNumbers.{IsHandedTo}
 use Rattle.job_shift.specs.Finishing.{entered, handed_among}
 use Rattle.job_shift.proofs.Answering.{length-entered, entered_to}
 use Rattle.job_shift.proofs.shift.Shift.finish.Goals as goal

@@ -2,7 +2,7 @@ use Rattle.std.proofs.Common.{◌≡◌, List, ap, sym, subst, ◌∙◌}
 use Rattle.std.specs.Prelude.{All}
 use Rattle.std.specs.List.{range_with_len}
 use Rattle.job_shift.specs.Hands.{HandState, AreAllHands, IsFresh, numbers, fresh_hands}
-use Rattle.job_shift.specs.Calls.{IsUnstarted}
+use Rattle.job_shift.specs.HandedNumbers.{IsUnstarted}
 use Rattle.job_shift.proofs.Fresh.{fresh_all, fresh_ready, fresh_numbers, unstarted}
 use Rattle.job_shift.proofs.shift.Shift.start.Goals as goal
 

@@ -1,7 +1,7 @@
 use Rattle.std.proofs.Common.{rules, ◌≡◌, ◌<◌, None, false, ap, sym, ◌∙◌, [], arith}
 use Rattle.tile_plan.specs.Plan.{TilePlan, tile_count}
 use Rattle.merge_board.proofs.Allowed.{may_draw}
-use Rattle.merge_board.proofs.Held.{slot_drawn, idle_turns}
+use Rattle.merge_board.proofs.HeldSlots.{slot_drawn, idle_turns}
 use Rattle.merge_board.proofs.board.Board.draw.Goals as goal
 
 -- src/board.rt:48:13

@@ -3,7 +3,7 @@ use Rattle.tile_plan.specs.Plan.{TilePlan, part_count, weight}
 use Rattle.atomic_table.specs.Table.{turned, rest}
 use Rattle.merge_board.specs.Fits.{Fits}
 use Rattle.merge_board.specs.Board.{door}
-use Rattle.merge_board.specs.Plays.{Hold, AreTurns}
+use Rattle.merge_board.specs.Steps.{Hold, AreTurns}
 use Rattle.merge_board.proofs.Handing.{may_put_down, told_alone, door_within}
 use Rattle.merge_board.proofs.board.Board.put_down.Goals as goal
 

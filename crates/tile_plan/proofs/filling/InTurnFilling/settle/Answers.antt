@@ -1,5 +1,5 @@
 use Rattle.std.proofs.Common.{◌≡◌, ℕ, arith}
-use Rattle.tile_plan.specs.Frames.{home_in}
+use Rattle.tile_plan.specs.TiledPictures.{home_in}
 use Rattle.tile_plan.proofs.Filled.{filled_more}
 use Rattle.tile_plan.proofs.filling.InTurnFilling.settle.Goals as goal
 

@@ -1,5 +1,5 @@
 use Rattle.std.proofs.Common.{◌≡◌, ℕ, ◌<◌, get_or}
-use Rattle.tile_plan.specs.Frames.{home_in}
+use Rattle.tile_plan.specs.TiledPictures.{home_in}
 use Rattle.tile_plan.proofs.filling.InTurnFilling.settle.Given as goal
 
 abbrev pub invariant-loop-vertex : goal.invariant-loop-vertex

@@ -2,7 +2,7 @@ use Rattle.std.proofs.Common.{◌≡◌, ℕ, ◌∙◌, sym, ap, subst, refl, l
 use Rattle.hg_base.specs.Edges.{ListedEdge, IsIn}
 use Rattle.edge_order.specs.Order.{EdgeOrder}
 use Rattle.tile_plan.specs.Grids.{tiles_in, rows_of}
-use Rattle.tile_plan.specs.Frames.{vertices_in}
+use Rattle.tile_plan.specs.TiledPictures.{vertices_in}
 use Rattle.tile_plan.specs.Plan.{TilePlan, IsEdgeAmong, home, place_of, vertices}
 use Rattle.tile_plan.proofs.Agreeing.{keys-below, table-at, plan-is}
 use Rattle.tile_plan.proofs.plan.Plan.laid.Goals as goal

@@ -1,6 +1,6 @@
 use Rattle.std.proofs.Common.{sym, ◌∙◌}
 use Rattle.tile_plan.proofs.Cuts.{number-one, number-merge}
-use Rattle.tile_plan.proofs.site.number_of.Goals as goal
+use Rattle.tile_plan.proofs.site.number.Goals as goal
 
 pub returns-then-tiles-eq1 : goal.returns-then-tiles-eq1
 returns-then-tiles-eq1 c = λ t h. number-one _ _ _ t _ h (sym (c.tiles-tiles.ensures.tree t h) ∙ c.if-tiles-eq1.true)

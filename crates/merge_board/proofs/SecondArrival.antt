@@ -3,14 +3,14 @@ use Rattle.std.proofs.Common.{◌≡◌, ◌≢◌, ℕ, ◌+◌, ◌<◌, ◌�
 use Rattle.std.proofs.lemmas.Bool.{cases_eq}
 use Rattle.std.specs.Prelude.{Some}
 use mathlib.Core.Option.{some, none}
-use Rattle.tile_plan.specs.Plan.{TilePlan, IsPlan, tile_count, root, mother, weight, sibling}
-use Rattle.tile_plan.proofs.Mothers.{has_mother}
+use Rattle.tile_plan.specs.Plan.{TilePlan, IsPlan, tile_count, root, parent, weight, sibling}
+use Rattle.tile_plan.proofs.Parents.{has_parent}
 use Rattle.border_climb.specs.Stands.{PartState}
 use Rattle.merge_board.specs.Fits.{Fits}
 use Rattle.merge_board.specs.Board.{Words, Slots, Views, IsPart, IsFormed, IsAtHome, HasArrived, IsInHand, IsInOrder, Shows, Keeps, IsEmpty, word_of, door}
 use Rattle.merge_board.specs.Seats.{with_merge}
 use Rattle.merge_board.specs.declared.view.View.{View}
-use Rattle.merge_board.proofs.Doors.{door_some, weight_some, weight_two, door_of_root, one_word, same_door, mother_merge, mother_later, mother_inner, sibling_part, sibling_door, sibling_weight}
+use Rattle.merge_board.proofs.Doors.{door_some, weight_some, weight_two, door_of_root, one_word, same_door, parent_merge, parent_later, parent_inner, sibling_part, sibling_door, sibling_weight}
 use Rattle.merge_board.proofs.Changes.{IsChange, shown, still_shown, one_view, no_hand, one_hand}
 
 module _ (p : TilePlan) (workers : ℕ) (w : Words) (slots : Slots) (views : Views) (plan : IsPlan p) (order : IsInOrder p workers w slots views)
@@ -24,7 +24,7 @@ module _ (p : TilePlan) (workers : ℕ) (w : Words) (slots : Slots) (views : Vie
   -- the root's word is 0 where the root arrives
   pub root_zero : i ≡ root p → w (door p i) ≡ 0
   root_zero r = let le : w (door p i) ≤ 1 = subst (λ (k : ℕ). w (door p k) ≤ 1) (sym r) order.root_range in
-      let one = (has_mother p i plan is_part).root_weight r in zero_of le one (λ e. in_hand.1 (inl e))
+      let one = (has_parent p i plan is_part).root_weight r in zero_of le one (λ e. in_hand.1 (inl e))
     where
       zero_of : w (door p i) ≤ 1 → weight p i ≡ 1 → (w (door p i) ≡ weight p i → ⊥) → w (door p i) ≡ 0
       zero_of le one ne = elim (cases_eq (w (door p i)) 1) [
@@ -34,25 +34,25 @@ module _ (p : TilePlan) (workers : ℕ) (w : Words) (slots : Slots) (views : Vie
 
   -- elsewhere a word that is not 0 tells that the sibling is at home
   pub sibling_home : i ≢ root p → w (door p i) ≢ 0 → IsAtHome p w (sibling p i)
-  sibling_home inner some_ = ap w (sibling_door p plan i is_part inner) ∙ weigh (order.range i is_part) (λ e. in_hand.1 (inl e)) (λ e. in_hand.1 (inr e))
+  sibling_home inner found_some = ap w (sibling_door p plan i is_part inner) ∙ weigh (order.range i is_part) (λ e. in_hand.1 (inl e)) (λ e. in_hand.1 (inr e))
     where
       weigh : w (door p i) ≤ 3 → w (door p i) ≢ weight p i → w (door p i) ≢ 3 → w (door p i) ≡ weight p (sibling p i)
       weigh le a b = let s = sibling_weight p plan i is_part inner in let t = weight_some p plan i is_part in let u = weight_two p plan i is_part in omega arith
 
   -- and the merge above is not formed
-  pub mother_unformed : i ≢ root p → w (door p i) ≢ 3
-  mother_unformed inner e = in_hand.1 (inr e)
+  pub parent_unformed : i ≢ root p → w (door p i) ≢ 3
+  parent_unformed inner e = in_hand.1 (inr e)
 
   pub sibling_slot : i ≢ root p → w (door p i) ≢ 0 → (z : PartState) × (Keeps slots (sibling p i) z × Fits p (sibling p i) z)
-  sibling_slot inner some_ = order.homes (sibling p i) (sibling_part p plan i is_part inner) (sibling_home inner some_)
+  sibling_slot inner found_some = order.homes (sibling p i) (sibling_part p plan i is_part inner) (sibling_home inner found_some)
 
-  pub mother_slot : i ≢ root p → IsEmpty slots (mother p i)
-  mother_slot inner = order.merges (mother p i) (mother_merge p plan i is_part) (mother_inner p plan i is_part inner) (mother_unformed inner)
+  pub parent_slot : i ≢ root p → IsEmpty slots (parent p i)
+  parent_slot inner = order.merges (parent p i) (parent_merge p plan i is_part) (parent_inner p plan i is_part inner) (parent_unformed inner)
 
 module _ (p : TilePlan) (workers : ℕ) (w w' : Words) (slots slots' slots'' : Slots) (views views' : Views) (plan : IsPlan p) (order : IsInOrder p workers w slots views)
     (id i n : ℕ) (v : View) (shows : Shows views id v) (hand : v.hand ≡ Some i) (inner : i ≢ root p) (some_word : w (door p i) ≢ 0)
-    (words : IsChange w w' (door p i) 3) (slot : IsChange slots slots' (sibling p i) (some none)) (slot' : IsChange slots' slots'' (mother p i) (some none))
-    (view : IsChange views views' id (some (with_merge v (mother p i) n))) where
+    (words : IsChange w w' (door p i) 3) (slot : IsChange slots slots' (sibling p i) (some none)) (slot' : IsChange slots' slots'' (parent p i) (some none))
+    (view : IsChange views views' id (some (with_merge v (parent p i) n))) where
   part_i : IsPart p i
   part_i = is_part p workers w slots views plan order id i v shows hand
 
@@ -72,7 +72,7 @@ module _ (p : TilePlan) (workers : ℕ) (w w' : Words) (slots slots' slots'' : S
   home_sibling = sibling_home p workers w slots views plan order id i v shows hand inner some_word
 
   unformed : w (door p i) ≢ 3
-  unformed = mother_unformed p workers w slots views plan order id i v shows hand inner
+  unformed = parent_unformed p workers w slots views plan order id i v shows hand inner
 
   -- the two halves had been formed
   halves_formed : (j : ℕ) → IsPart p j → door p j ≡ door p i → IsFormed p w j
@@ -96,18 +96,18 @@ module _ (p : TilePlan) (workers : ℕ) (w w' : Words) (slots slots' slots'' : S
           weights : weight p (sibling p i) ≡ weight p j
           weights = let s = sibling_weight p plan i part_i inner in omega arith
 
-  mother_at : IsPart p (mother p i)
-  mother_at = mother_inner p plan i part_i inner
+  parent_at : IsPart p (parent p i)
+  parent_at = parent_inner p plan i part_i inner
 
-  mother_low : tile_count p ≤ mother p i
-  mother_low = mother_merge p plan i part_i
+  parent_low : tile_count p ≤ parent p i
+  parent_low = parent_merge p plan i part_i
 
-  mother_not_formed : IsFormed p w (mother p i) → ⊥
-  mother_not_formed (inl f) = let a = f.0 in let b = mother_low in omega arith
-  mother_not_formed (inr f) = unformed f.1
+  parent_not_formed : IsFormed p w (parent p i) → ⊥
+  parent_not_formed (inl f) = let a = f.0 in let b = parent_low in omega arith
+  parent_not_formed (inr f) = unformed f.1
 
-  mother_formed : IsFormed p w' (mother p i)
-  mother_formed = inr (mother_low, words.here)
+  parent_formed : IsFormed p w' (parent p i)
+  parent_formed = inr (parent_low, words.here)
 
   formed_on : (j : ℕ) → IsFormed p w j → IsFormed p w' j
   formed_on j (inl t) = inl (t.0, (let d = draws in let b = t.1 in omega arith))
@@ -116,10 +116,10 @@ module _ (p : TilePlan) (workers : ℕ) (w w' : Words) (slots slots' slots'' : S
     | inr ne ↦ inr (m.0, words.others (word_of p j) ne ∙ m.1)
   ]
 
-  formed_back : (j : ℕ) → j ≢ mother p i → IsFormed p w' j → IsFormed p w j
+  formed_back : (j : ℕ) → j ≢ parent p i → IsFormed p w' j → IsFormed p w j
   formed_back j apart (inl t) = inl (t.0, (let d = draws in let b = t.1 in omega arith))
   formed_back j apart (inr m) = elim (cases_eq (word_of p j) (door p i)) [
-    | inl same ↦ absurd (apart (one_word p plan j (mother p i) m.0 mother_low same))
+    | inl same ↦ absurd (apart (one_word p plan j (parent p i) m.0 parent_low same))
     | inr ne ↦ inr (m.0, sym (words.others (word_of p j) ne) ∙ m.1)
   ]
 
@@ -137,17 +137,17 @@ module _ (p : TilePlan) (workers : ℕ) (w w' : Words) (slots slots' slots'' : S
       moved ne (inl home) = inl (same_at j ne ∙ home)
       moved ne (inr spent) = inr (same_at j ne ∙ spent)
 
-  mother_door : door p (mother p i) ≢ door p i
-  mother_door e = let a = one_word p plan (mother p (mother p i)) (mother p i) (mother_merge p plan (mother p i) mother_at) mother_low e in let b = mother_later p plan (mother p i) mother_at in omega arith
+  parent_door : door p (parent p i) ≢ door p i
+  parent_door e = let a = one_word p plan (parent p (parent p i)) (parent p i) (parent_merge p plan (parent p i) parent_at) parent_low e in let b = parent_later p plan (parent p i) parent_at in omega arith
 
-  mother_away : HasArrived p w' (mother p i) → ⊥
-  mother_away a = mother_not_formed (order.formed (mother p i) mother_at (arrived_back (mother p i) mother_door a))
+  parent_away : HasArrived p w' (parent p i) → ⊥
+  parent_away a = parent_not_formed (order.formed (parent p i) parent_at (arrived_back (parent p i) parent_door a))
 
-  before : (k : ℕ) (u : View) → Shows views' k u → ((k ≡ id) × (with_merge v (mother p i) n ≡ u)) ⊎ ((k ≢ id) × Shows views k u)
-  before k u s = shown views views' id k (with_merge v (mother p i) n) u view s
+  before : (k : ℕ) (u : View) → Shows views' k u → ((k ≡ id) × (with_merge v (parent p i) n ≡ u)) ⊎ ((k ≢ id) × Shows views k u)
+  before k u s = shown views views' id k (with_merge v (parent p i) n) u view s
 
-  merge_hand : (u : View) (j : ℕ) → with_merge v (mother p i) n ≡ u → u.hand ≡ Some j → mother p i ≡ j
-  merge_hand u j e h = one_hand u (mother p i) j (sym (ap (λ (x : View). x.hand) e)) h
+  merge_hand : (u : View) (j : ℕ) → with_merge v (parent p i) n ≡ u → u.hand ≡ Some j → parent p i ≡ j
+  merge_hand u j e h = one_hand u (parent p i) j (sym (ap (λ (x : View). x.hand) e)) h
 
   other_seat : (k j : ℕ) (u : View) → Shows views k u → u.hand ≡ Some j → j ≢ i → k ≢ id
   other_seat k j u s h ne e = ne (one_hand u j i h (ap (λ (x : View). x.hand) (one_view views id u v (subst (λ (a : ℕ). Shows views a u) e s) shows) ∙ hand))
@@ -182,13 +182,13 @@ module _ (p : TilePlan) (workers : ℕ) (w w' : Words) (slots slots' slots'' : S
             | inr diff ↦ at.1.1 (arrived_back j diff a)
           ]
 
-      by : ((k ≡ id) × (with_merge v (mother p i) n ≡ u)) ⊎ ((k ≢ id) × Shows views k u) → IsPart p j × IsInHand p w' j
-      by (inl t) = subst (λ (x : ℕ). IsPart p x × IsInHand p w' x) (merge_hand u j t.1 h) (mother_at, (mother_formed, mother_away))
+      by : ((k ≡ id) × (with_merge v (parent p i) n ≡ u)) ⊎ ((k ≢ id) × Shows views k u) → IsPart p j × IsInHand p w' j
+      by (inl t) = subst (λ (x : ℕ). IsPart p x × IsInHand p w' x) (merge_hand u j t.1 h) (parent_at, (parent_formed, parent_away))
       by (inr t) = other t.0 t.1
 
   held : (j : ℕ) → IsPart p j → IsInHand p w' j → (k : ℕ) × ((u : View) × (Shows views' k u × (u.hand ≡ Some j)))
-  held j h a = elim (cases_eq j (mother p i)) [
-    | inl same ↦ (id, (with_merge v (mother p i) n, (view.here, ap (λ (x : ℕ). Some x) (sym same))))
+  held j h a = elim (cases_eq j (parent p i)) [
+    | inl same ↦ (id, (with_merge v (parent p i) n, (view.here, ap (λ (x : ℕ). Some x) (sym same))))
     | inr ne ↦ other ne
   ]
     where
@@ -198,8 +198,8 @@ module _ (p : TilePlan) (workers : ℕ) (w w' : Words) (slots slots' slots'' : S
       apart : j ≢ i
       apart e = a.1 (subst (λ (x : ℕ). HasArrived p w' x) (sym e) arrived_i)
 
-      other : j ≢ mother p i → (k : ℕ) × ((u : View) × (Shows views' k u × (u.hand ≡ Some j)))
-      other ne = (was.0, (was.1.0, (still_shown views views' id was.0 (with_merge v (mother p i) n) was.1.0 view (other_seat was.0 j was.1.0 was.1.1.0 was.1.1.1 apart) was.1.1.0, was.1.1.1)))
+      other : j ≢ parent p i → (k : ℕ) × ((u : View) × (Shows views' k u × (u.hand ≡ Some j)))
+      other ne = (was.0, (was.1.0, (still_shown views views' id was.0 (with_merge v (parent p i) n) was.1.0 view (other_seat was.0 j was.1.0 was.1.1.0 was.1.1.1 apart) was.1.1.0, was.1.1.1)))
         where
           was : (k : ℕ) × ((u : View) × (Shows views k u × (u.hand ≡ Some j)))
           was = order.held j h (formed_back j ne a.0, λ b. a.1 (arrived_on j b))
@@ -207,10 +207,10 @@ module _ (p : TilePlan) (workers : ℕ) (w w' : Words) (slots slots' slots'' : S
   once : (k l j : ℕ) (a b : View) → Shows views' k a → Shows views' l b → a.hand ≡ Some j → b.hand ≡ Some j → k ≡ l
   once k l j a b s t g h = by (before k a s) (before l b t)
     where
-      never : (m : ℕ) (c : View) → Shows views m c → c.hand ≡ Some j → mother p i ≡ j → ⊥
-      never m c q r e = mother_not_formed (subst (λ (x : ℕ). IsFormed p w x) (sym e) (order.in_hand m j c q r).1.0)
+      never : (m : ℕ) (c : View) → Shows views m c → c.hand ≡ Some j → parent p i ≡ j → ⊥
+      never m c q r e = parent_not_formed (subst (λ (x : ℕ). IsFormed p w x) (sym e) (order.in_hand m j c q r).1.0)
 
-      by : ((k ≡ id) × (with_merge v (mother p i) n ≡ a)) ⊎ ((k ≢ id) × Shows views k a) → ((l ≡ id) × (with_merge v (mother p i) n ≡ b)) ⊎ ((l ≢ id) × Shows views l b) → k ≡ l
+      by : ((k ≡ id) × (with_merge v (parent p i) n ≡ a)) ⊎ ((k ≢ id) × Shows views k a) → ((l ≡ id) × (with_merge v (parent p i) n ≡ b)) ⊎ ((l ≢ id) × Shows views l b) → k ≡ l
       by (inl x) (inl z) = x.0 ∙ sym z.0
       by (inl x) (inr z) = absurd (never l b z.1 h (merge_hand a j x.1 g))
       by (inr x) (inl z) = absurd (never k a x.1 g (merge_hand b j z.1 h))
@@ -219,7 +219,7 @@ module _ (p : TilePlan) (workers : ℕ) (w w' : Words) (slots slots' slots'' : S
   not_sibling : (j : ℕ) → (IsFormed p w j → ⊥) → j ≢ sibling p i
   not_sibling j un e = un (subst (λ (a : ℕ). IsFormed p w a) (sym e) (order.formed (sibling p i) (sibling_part p plan i part_i inner) (inl home_sibling)))
 
-  kept : (j : ℕ) → j ≢ sibling p i → j ≢ mother p i → slots'' j ≡ slots j
+  kept : (j : ℕ) → j ≢ sibling p i → j ≢ parent p i → slots'' j ≡ slots j
   kept j a b = slot'.others j b ∙ slot.others j a
 
   pub second_arrives : IsInOrder p workers w' slots'' views'
@@ -260,8 +260,8 @@ module _ (p : TilePlan) (workers : ℕ) (w w' : Words) (slots slots' slots'' : S
       tile_unborn t low high (inl f) = let a = f.1 in let d = draws in omega arith
       tile_unborn t low high (inr f) = let a = f.0 in omega arith
 
-      tile_low : (t : ℕ) → t < tile_count p → t ≡ mother p i → ⊥
-      tile_low t low e = let a = mother_low in omega arith
+      tile_low : (t : ℕ) → t < tile_count p → t ≡ parent p i → ⊥
+      tile_low t low e = let a = parent_low in omega arith
 
       merge_formed : (m : ℕ) → tile_count p ≤ m → IsFormed p w' m → w' (word_of p m) ≡ 3
       merge_formed m low (inl f) = absurd (let a = f.0 in omega arith)
@@ -269,7 +269,7 @@ module _ (p : TilePlan) (workers : ℕ) (w w' : Words) (slots slots' slots'' : S
 
       at_home : (j : ℕ) → IsPart p j → IsAtHome p w' j → (door p j ≡ door p i) ⊎ (door p j ≢ door p i) → (part : PartState) × (Keeps slots'' j part × Fits p j part)
       at_home j h home (inl same) = absurd (let a = at_door j same in let b : w' (door p j) ≡ weight p j = home in let c = weight_two p plan j h in omega arith)
-      at_home j h home (inr diff) = (was.0, (kept j not_sib not_mother ∙ was.1.0, was.1.1))
+      at_home j h home (inr diff) = (was.0, (kept j not_sib not_parent ∙ was.1.0, was.1.1))
         where
           was_home : IsAtHome p w j
           was_home = sym (same_at j diff) ∙ home
@@ -280,5 +280,5 @@ module _ (p : TilePlan) (workers : ℕ) (w w' : Words) (slots slots' slots'' : S
           not_sib : j ≢ sibling p i
           not_sib e = diff (ap (λ (x : ℕ). door p x) e ∙ sibling_door p plan i part_i inner)
 
-          not_mother : j ≢ mother p i
-          not_mother e = mother_not_formed (subst (λ (x : ℕ). IsFormed p w x) e (order.formed j h (inl was_home)))
+          not_parent : j ≢ parent p i
+          not_parent e = parent_not_formed (subst (λ (x : ℕ). IsFormed p w x) e (order.formed j h (inl was_home)))

@@ -1,6 +1,6 @@
 -- What a draw and an arrival answer, by the number that their one step found.
 use Rattle.std.specs.Prelude.{◌≡◌, ◌≢◌, ℕ, ◌<◌, ◌≤◌, List, [], ◌∷◌, Option, Some, None}
-use Rattle.tile_plan.specs.Plan.{TilePlan, tile_count, root, mother, weight, sibling, left, right}
+use Rattle.tile_plan.specs.Plan.{TilePlan, tile_count, root, parent, weight, sibling, left, right}
 use Rattle.border_climb.specs.Stands.{PartState}
 use Rattle.merge_board.specs.Fits.{Fits, Opened}
 use Rattle.merge_board.specs.Seats.{drawn, missing, idle, with_merge}
@@ -25,21 +25,21 @@ pub record HasMissed (p : TilePlan) (old new : View) : Type 0 where
 -- and Whole where it is the root
 abbrev pub IsArrival : TilePlan → ℕ → View → View → Arrival → Type 0
 IsArrival p i old new Waits = (i ≢ root p) × (new ≡ idle old 0)
-IsArrival p i old new (Both number left_ right_) =
-    (i ≢ root p) × ((number ≡ mother p i) × ((new ≡ with_merge old number (weight p (sibling p i)))
-    × (Fits p (left p number) left_ × Fits p (right p number) right_)))
+IsArrival p i old new (Both number left_part right_part) =
+    (i ≢ root p) × ((number ≡ parent p i) × ((new ≡ with_merge old number (weight p (sibling p i)))
+    × (Fits p (left p number) left_part × Fits p (right p number) right_part)))
 IsArrival p i old new Whole = (i ≡ root p) × (new ≡ idle old 0)
 
 -- both halves of the merge above part i, each with all edges at and below it
 abbrev pub HandsHalves : TilePlan → ℕ → Arrival → Type 0
 HandsHalves p i Waits = ⊥
-HandsHalves p i (Both number left_ right_) = (number ≡ mother p i) × (Fits p (left p number) left_ × Fits p (right p number) right_)
+HandsHalves p i (Both number left_part right_part) = (number ≡ parent p i) × (Fits p (left p number) left_part × Fits p (right p number) right_part)
 HandsHalves p i Whole = ⊥
 
 -- the slots of part i and its sibling, out with a seat below that of the merge above them
 pub record HoldsHalves (p : TilePlan) (i : ℕ) (held : List (ℕ × Option PartState)) : Type 0 where
   pub own : PartState
   pub other : PartState
-  pub slots : held ≡ (mother p i, None) ∷ (sibling p i, Some other) ∷ (i, Some own) ∷ []
+  pub slots : held ≡ (parent p i, None) ∷ (sibling p i, Some other) ∷ (i, Some own) ∷ []
   pub own_fits : Fits p i own
   pub other_fits : Fits p (sibling p i) other

@@ -2,7 +2,7 @@
 use Rattle.std.specs.Prelude.{◌≡◌, ◌≢◌, ℕ, ◌+◌, ◌<◌, ◌≤◌, List, [], ◌∷◌, Option, Some, None}
 use Rattle.atomic_table.specs.Table.{Me}
 use Rattle.border_climb.specs.Stands.{PartState}
-use Rattle.tile_plan.specs.Plan.{TilePlan, tile_count, part_count, root, mother, weight, sibling}
+use Rattle.tile_plan.specs.Plan.{TilePlan, tile_count, part_count, root, parent, weight, sibling}
 use Rattle.merge_board.specs.Fits.{Fits, Opened}
 use Rattle.merge_board.specs.Seats.{drawn, missing, idle, with_merge}
 use Rattle.merge_board.specs.declared.view.View.{View}
@@ -11,8 +11,8 @@ use Rattle.merge_board.specs.declared.view.View.{View}
 pub record AreHalves (p : TilePlan) (i a b : ℕ) : Type 0 where
   pub first : a < part_count p
   pub second : b < part_count p
-  pub first_mother : mother p a ≡ i
-  pub second_mother : mother p b ≡ i
+  pub first_parent : parent p a ≡ i
+  pub second_parent : parent p b ≡ i
   pub weights : weight p a + weight p b ≡ 3
 
 -- the view and the slots that a seat has
@@ -39,9 +39,9 @@ pub record ArrivesWith (i : ℕ) (me : Hold) (n : ℕ) (after : Hold) : Type 0 w
   pub root_zero : i ≡ root me.0.plan → n ≡ 0
   pub waits : n ≡ 0 → (after.0 ≡ idle me.0 n) × (after.1 ≡ [])
   pub both : n ≢ 0 → (n ≡ weight me.0.plan (sibling me.0.plan i))
-      × ((after.0 ≡ with_merge me.0 (mother me.0.plan i) n)
+      × ((after.0 ≡ with_merge me.0 (parent me.0.plan i) n)
       × ((z : PartState) × (Fits me.0.plan (sibling me.0.plan i) z
-      × (after.1 ≡ (mother me.0.plan i, None) ∷ (sibling me.0.plan i, Some z) ∷ (i, last_of me.1) ∷ []))))
+      × (after.1 ≡ (parent me.0.plan i, None) ∷ (sibling me.0.plan i, Some z) ∷ (i, last_of me.1) ∷ []))))
 
 abbrev pub Arrives : Hold → ℕ → Hold → Type 0
 Arrives me n after = (i : ℕ) → me.0.hand ≡ Some i → ArrivesWith i me n after

@@ -3,7 +3,7 @@ use Rattle.std.specs.Prelude.{◌≡◌, ◌≢◌, ℕ, ◌<◌, List}
 use mathlib.Core.Option.{some}
 use lib.ListN.{get_elem?}
 use Rattle.job_shift.specs.Times.{times, times_out}
-use Rattle.job_shift.specs.Plays.{Moment}
+use Rattle.job_shift.specs.Steps.{Moment}
 use Rattle.job_shift.specs.Shift.{ShiftTable, IsShift, Shows, steps}
 use Rattle.job_shift.specs.Hands.{HandState, ShiftState, handed, with_job, missing}
 use Rattle.job_shift.specs.declared.view.HandView.{HandView}

@@ -1,15 +1,15 @@
--- The laws of mothers and halves, over a whole plan.
+-- The laws of parents and halves, over a whole plan.
 use Rattle.std.proofs.Common.{◌≡◌, ◌≢◌, ℕ, ◌+◌, ◌-◌, ◌*◌, ◌<◌, ◌≤◌, Bool, inl, inr, refl, sym, ◌∙◌, subst, ap, arith}
 use Rattle.std.proofs.lemmas.Bool.{cases_lt, cases_eq}
 use Rattle.tile_plan.specs.Merges.{MergeTree, Tile, Merge, tiles, merges}
-use Rattle.tile_plan.specs.Sites.{Part, number, left_site, right_site, find, left_of, right_of}
+use Rattle.tile_plan.specs.Sites.{Part, number, left_site, right_site, find, left_number, right_number}
 use Rattle.tile_plan.specs.Grids.{tree_in, root_of, part_in}
 use Rattle.tile_plan.specs.declared.site.Site.{Site}
-use Rattle.tile_plan.specs.Plan.{TilePlan, IsPlan, grid_of, tile_count, part, part_count, root, first_tile, tiles_of, left, right, mother, weight, sibling, start}
+use Rattle.tile_plan.specs.Plan.{TilePlan, IsPlan, grid_of, tile_count, part, part_count, root, first_tile, tiles_of, left, right, parent, weight, sibling, start}
 use Rattle.tile_plan.specs.Laws as laws
 use Rattle.tile_plan.proofs.Cuts.{tiles-merges, tiles-some}
 use Rattle.tile_plan.proofs.Laying.{tree_in-tiles, grid-columns, grid-rows}
-use Rattle.tile_plan.proofs.Parts.{Has, IsFound, HalfOf, found, find-self, left-found, right-found, mother_of, own}
+use Rattle.tile_plan.proofs.Parts.{Has, IsFound, HalfOf, found, find-self, left-found, right-found, parent_of, own}
 
 -- the part of number i, where it is found in the tree of the plan
 abbrev pub IsPart : TilePlan → ℕ → Part → Type 0
@@ -98,8 +98,8 @@ halves-at p m h low high =
     let a = merge-at p m h low high in
     let q : Part = record { tree = Merge a.by a.k a.x a.y; site = a.s } in
     let f : IsPart p m q = subst (IsPart p m) a.is (is_part p m h high) in
-    let l : left p m ≡ number (tile_count p) a.x (left_site (tile_count p) a.x a.y a.s) = ap (λ (z : Part). left_of (tile_count p) z.tree z.site) a.is in
-    let r : right p m ≡ number (tile_count p) a.y (right_site (tile_count p) a.x a.y a.s) = ap (λ (z : Part). right_of (tile_count p) z.tree z.site) a.is in
+    let l : left p m ≡ number (tile_count p) a.x (left_site (tile_count p) a.x a.y a.s) = ap (λ (z : Part). left_number (tile_count p) z.tree z.site) a.is in
+    let r : right p m ≡ number (tile_count p) a.y (right_site (tile_count p) a.x a.y a.s) = ap (λ (z : Part). right_number (tile_count p) z.tree z.site) a.is in
     record {
       at = a;
       fits = (let fits = part-fits p m q h f in omega (arith, fits));
@@ -129,8 +129,8 @@ has_halves p m h low high =
     record {
       left_below = omega (arith, l_is, l_low, own_is);
       right_below = omega (arith, r_is, r_low, own_is);
-      left_mother = ap (λ (z : Part). z.site.mother) v.left_part ∙ own_is;
-      right_mother = ap (λ (z : Part). z.site.mother) v.right_part ∙ own_is;
+      left_parent = ap (λ (z : Part). z.site.parent) v.left_part ∙ own_is;
+      right_parent = ap (λ (z : Part). z.site.parent) v.right_part ∙ own_is;
       left_weight = ap (λ (z : Part). z.site.weight) v.left_part;
       right_weight = ap (λ (z : Part). z.site.weight) v.right_part;
       left_first = l_first ∙ sym first;
@@ -138,7 +138,7 @@ has_halves p m h low high =
       tiles = omega (arith, l_tiles, r_tiles, all);
       left_place = ap (start p) (l_first ∙ sym first);
       right_place = ap (start p) (omega (arith, r_first, l_first, l_tiles));
-      end_ = ap (start p) (omega (arith, r_first, first, all, r_tiles));
+      right_end = ap (start p) (omega (arith, r_first, first, all, r_tiles));
     }
 
 -- the number of the last part
@@ -156,11 +156,11 @@ root-part p h = ap (find (tile_count p) (tree_in (grid_of p)) (root_of (tile_cou
 plan-some : (p : TilePlan) → IsPlan p → 1 ≤ tile_count p
 plan-some p h = let count = plan-tiles p h in let some = tiles-some (tree_in (grid_of p)) in omega (arith, count, some)
 
-root-mother : (p : TilePlan) → IsPlan p → laws.HasMother p (root p)
-root-mother p h =
+root-parent : (p : TilePlan) → IsPlan p → laws.HasParent p (root p)
+root-parent p h =
     let is = root-part p h in
     let some = plan-some p h in
-    let m : mother p (root p) ≡ 2 * tile_count p - 1 = ap (λ (z : Part). z.site.mother) is in
+    let m : parent p (root p) ≡ 2 * tile_count p - 1 = ap (λ (z : Part). z.site.parent) is in
     let w : weight p (root p) ≡ 1 = ap (λ (z : Part). z.site.weight) is in
     record {
       later = omega (arith, m, some);
@@ -171,16 +171,16 @@ root-mother p h =
       left_half = λ off. absurd (off refl);
       right_half = λ off. absurd (off refl);
       sibling_below = λ off. absurd (off refl);
-      sibling_mother = λ off. absurd (off refl);
+      sibling_parent = λ off. absurd (off refl);
       sibling_weight = λ off. absurd (off refl);
-      root_mother = λ e. m;
+      root_parent = λ e. m;
       root_weight = λ e. w;
     }
 
 -- a part that is a half of m
-half-mother : (p : TilePlan) (i m w other : ℕ) → IsPlan p → tile_count p ≤ m → m < part_count p → i ≢ root p → i < m → mother p i ≡ m → weight p i ≡ w → (1 ≤ w) × (w ≤ 2)
-    → (w ≡ 1 → left p m ≡ i) → (w ≡ 2 → right p m ≡ i) → sibling p i ≡ other → other < m → mother p other ≡ m → weight p other + w ≡ 3 → laws.HasMother p i
-half-mother p i m w other h low high off later is weighs range on_left on_right sib below sib_mother sib_weight =
+half-parent : (p : TilePlan) (i m w other : ℕ) → IsPlan p → tile_count p ≤ m → m < part_count p → i ≢ root p → i < m → parent p i ≡ m → weight p i ≡ w → (1 ≤ w) × (w ≤ 2)
+    → (w ≡ 1 → left p m ≡ i) → (w ≡ 2 → right p m ≡ i) → sibling p i ≡ other → other < m → parent p other ≡ m → weight p other + w ≡ 3 → laws.HasParent p i
+half-parent p i m w other h low high off later is weighs range on_left on_right sib below sib_parent sib_weight =
     let few : 1 ≤ w = range.0 in
     let many : w ≤ 2 = range.1 in
     record {
@@ -192,61 +192,61 @@ half-mother p i m w other h low high off later is weighs range on_left on_right 
       left_half = λ o e. ap (left p) is ∙ on_left (sym weighs ∙ e);
       right_half = λ o e. ap (right p) is ∙ on_right (sym weighs ∙ e);
       sibling_below = λ o. omega (arith, sib);
-      sibling_mother = λ o. ap (mother p) sib ∙ sib_mother ∙ sym is;
+      sibling_parent = λ o. ap (parent p) sib ∙ sib_parent ∙ sym is;
       sibling_weight = λ o. (let same : weight p (sibling p i) ≡ weight p other = ap (weight p) sib in omega (arith, same, weighs, sib_weight));
-      root_mother = λ e. absurd (off e);
+      root_parent = λ e. absurd (off e);
       root_weight = λ e. absurd (off e);
     }
 
 -- the halves by number
-left-mother : (p : TilePlan) (i m : ℕ) → IsPlan p → tile_count p ≤ m → m < part_count p → i ≢ root p → left p m ≡ i → laws.HasMother p i
-left-mother p i m h low high off e =
+left-parent : (p : TilePlan) (i m : ℕ) → IsPlan p → tile_count p ≤ m → m < part_count p → i ≢ root p → left p m ≡ i → laws.HasParent p i
+left-parent p i m h low high off e =
     let v = has_halves p m h low high in
-    let is : mother p i ≡ m = subst (λ (j : ℕ). mother p j ≡ m) e v.left_mother in
+    let is : parent p i ≡ m = subst (λ (j : ℕ). parent p j ≡ m) e v.left_parent in
     let w : weight p i ≡ 1 = subst (λ (j : ℕ). weight p j ≡ 1) e v.left_weight in
     let below : left p m < m = v.left_below in
     let two : weight p (right p m) ≡ 2 = v.right_weight in
-    half-mother p i m 1 (right p m) h low high off (omega arith) is w (omega arith, omega arith) (λ z. e) (λ z. absurd (omega arith))
-    (rw w (ap (right p) is)) v.right_below v.right_mother (omega (arith, two))
+    half-parent p i m 1 (right p m) h low high off (omega arith) is w (omega arith, omega arith) (λ z. e) (λ z. absurd (omega arith))
+    (rw w (ap (right p) is)) v.right_below v.right_parent (omega (arith, two))
 
-right-mother : (p : TilePlan) (i m : ℕ) → IsPlan p → tile_count p ≤ m → m < part_count p → i ≢ root p → right p m ≡ i → laws.HasMother p i
-right-mother p i m h low high off e =
+right-parent : (p : TilePlan) (i m : ℕ) → IsPlan p → tile_count p ≤ m → m < part_count p → i ≢ root p → right p m ≡ i → laws.HasParent p i
+right-parent p i m h low high off e =
     let v = has_halves p m h low high in
-    let is : mother p i ≡ m = subst (λ (j : ℕ). mother p j ≡ m) e v.right_mother in
+    let is : parent p i ≡ m = subst (λ (j : ℕ). parent p j ≡ m) e v.right_parent in
     let w : weight p i ≡ 2 = subst (λ (j : ℕ). weight p j ≡ 2) e v.right_weight in
     let below : right p m < m = v.right_below in
     let one : weight p (left p m) ≡ 1 = v.left_weight in
-    half-mother p i m 2 (left p m) h low high off (omega arith) is w (omega arith, omega arith) (λ z. absurd (omega arith)) (λ z. e)
-    (rw w (ap (left p) is)) v.left_below v.left_mother (omega (arith, one))
+    half-parent p i m 2 (left p m) h low high off (omega arith) is w (omega arith, omega arith) (λ z. absurd (omega arith)) (λ z. e)
+    (rw w (ap (left p) is)) v.left_below v.left_parent (omega (arith, one))
 
 -- a half of a part that is a merge
-halved : (p : TilePlan) (i m : ℕ) (q : Part) → IsPlan p → m < part_count p → i < part_count p → i ≢ root p → part p m ≡ q → IsPart p m q → HalfOf (tile_count p) q.tree q.site (part p i) → laws.HasMother p i
+halved : (p : TilePlan) (i m : ℕ) (q : Part) → IsPlan p → m < part_count p → i < part_count p → i ≢ root p → part p m ≡ q → IsPart p m q → HalfOf (tile_count p) q.tree q.site (part p i) → laws.HasParent p i
 halved p i m q h lm li off e f half = by_tree q.tree q.site e f half
   where
-    by_tree : (t : MergeTree) (s : Site) → part p m ≡ record { tree = t; site = s } → IsPart p m (record { tree = t; site = s }) → HalfOf (tile_count p) t s (part p i) → laws.HasMother p i
+    by_tree : (t : MergeTree) (s : Site) → part p m ≡ record { tree = t; site = s } → IsPart p m (record { tree = t; site = s }) → HalfOf (tile_count p) t s (part p i) → laws.HasParent p i
     by_tree Tile s e f half = absurd half
     by_tree (Merge by k x y) s e f (inl half) =
         let fi = is_part p i h li in
         let num : number (tile_count p) x (left_site (tile_count p) x y s) ≡ i = subst (λ (z : Part). number (tile_count p) z.tree z.site ≡ i) half fi.number in
-        let is : left p m ≡ i = ap (λ (z : Part). left_of (tile_count p) z.tree z.site) e ∙ num in
-        left-mother p i m h (let at : own (tile_count p) x y s ≡ m = f.number in omega (arith, at)) lm off is
+        let is : left p m ≡ i = ap (λ (z : Part). left_number (tile_count p) z.tree z.site) e ∙ num in
+        left-parent p i m h (let at : own (tile_count p) x y s ≡ m = f.number in omega (arith, at)) lm off is
     by_tree (Merge by k x y) s e f (inr half) =
         let fi = is_part p i h li in
         let num : number (tile_count p) y (right_site (tile_count p) x y s) ≡ i = subst (λ (z : Part). number (tile_count p) z.tree z.site ≡ i) half fi.number in
-        let is : right p m ≡ i = ap (λ (z : Part). right_of (tile_count p) z.tree z.site) e ∙ num in
-        right-mother p i m h (let at : own (tile_count p) x y s ≡ m = f.number in omega (arith, at)) lm off is
+        let is : right p m ≡ i = ap (λ (z : Part). right_number (tile_count p) z.tree z.site) e ∙ num in
+        right-parent p i m h (let at : own (tile_count p) x y s ≡ m = f.number in omega (arith, at)) lm off is
 
-inner_mother : (p : TilePlan) (i : ℕ) → IsPlan p → i < part_count p → i ≢ root p → laws.HasMother p i
+inner_parent : (p : TilePlan) (i : ℕ) → IsPlan p → i < part_count p → i ≢ root p → laws.HasParent p i
 unfolding part part_in
-inner_mother p i h l off =
+inner_parent p i h l off =
     let count = plan-tiles p h in
-    let m = mother_of (tile_count p) (tree_in (grid_of p)) (root_of (tile_count p)) i (omega (arith, count)) (plan-has p i h l) (λ e. off (e ∙ root-is p h)) in
+    let m = parent_of (tile_count p) (tree_in (grid_of p)) (root_of (tile_count p)) i (omega (arith, count)) (plan-has p i h l) (λ e. off (e ∙ root-is p h)) in
     let lm = has-below p m.at h m.has in
     halved p i m.at (part p m.at) h lm l off refl (is_part p m.at h lm) m.half
 
-pub has_mother : (p : TilePlan) (i : ℕ) → IsPlan p → i < part_count p → laws.HasMother p i
-has_mother p i h l =
+pub has_parent : (p : TilePlan) (i : ℕ) → IsPlan p → i < part_count p → laws.HasParent p i
+has_parent p i h l =
     elim (cases_eq i (root p)) [
-      | inl level ↦ subst (laws.HasMother p) (sym level) (root-mother p h)
-      | inr off ↦ inner_mother p i h l off
+      | inl level ↦ subst (laws.HasParent p) (sym level) (root-parent p h)
+      | inr off ↦ inner_parent p i h l off
     ]

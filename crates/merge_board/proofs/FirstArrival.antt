@@ -4,7 +4,7 @@ use Rattle.std.proofs.lemmas.Bool.{cases_eq}
 use Rattle.std.specs.Prelude.{Some, None}
 use mathlib.Core.Option.{some}
 use Rattle.tile_plan.specs.Plan.{TilePlan, IsPlan, tile_count, root, weight}
-use Rattle.tile_plan.proofs.Mothers.{has_mother}
+use Rattle.tile_plan.proofs.Parents.{has_parent}
 use Rattle.border_climb.specs.Stands.{PartState}
 use Rattle.merge_board.specs.Fits.{Fits}
 use Rattle.merge_board.specs.Board.{Words, Slots, Views, IsPart, IsFormed, IsAtHome, HasArrived, IsInHand, IsInOrder, Shows, Keeps, word_of, door}
@@ -98,7 +98,7 @@ module _ (p : TilePlan) (workers : ℕ) (w w' : Words) (slots slots' : Slots) (v
 
   root_range : w' (door p (root p)) ≤ 1
   root_range = elim (cases_eq (door p (root p)) (door p i)) [
-    | inl same ↦ (let a = at_door (root p) same in let b = (has_mother p i plan is_part).root_weight (door_of_root p plan i is_part same) in omega arith)
+    | inl same ↦ (let a = at_door (root p) same in let b = (has_parent p i plan is_part).root_weight (door_of_root p plan i is_part same) in omega arith)
     | inr ne ↦ (let a = same_at (root p) ne in let b = order.root_range in omega arith)
   ]
 

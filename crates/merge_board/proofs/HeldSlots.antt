@@ -2,9 +2,9 @@
 use Rattle.std.proofs.Common.{◌≡◌, ℕ, ◌<◌, sym, ◌∙◌, subst, ap, List, [], ◌∷◌, ◌++◌}
 use Rattle.std.specs.Prelude.{Option, Some, None}
 use Rattle.atomic_table.specs.Table.{rest, turned}
-use Rattle.tile_plan.specs.Plan.{TilePlan, tile_count, mother, sibling}
+use Rattle.tile_plan.specs.Plan.{TilePlan, tile_count, parent, sibling}
 use Rattle.border_climb.specs.Stands.{PartState}
-use Rattle.merge_board.specs.Plays.{Hold, Draws, AreTurns, AreBelow, ArrivesWith, last_of}
+use Rattle.merge_board.specs.Steps.{Hold, Draws, AreTurns, AreBelow, ArrivesWith, last_of}
 
 -- a list with this head has it before its rest
 pub before_rest : (xs ys : List (ℕ × Option PartState)) (x : ℕ × Option PartState) → xs ≡ x ∷ ys → xs ≡ x ∷ rest xs
@@ -21,7 +21,7 @@ idle_turns p hand held e t = subst (λ (h : Option ℕ). AreTurns p h held) e t
 -- what an arrival tells hangs on the last slot alone
 pub arrives_alone : (i : ℕ) (x : Option PartState) (below : List (ℕ × Option PartState)) (me after : Hold) (n : ℕ) → AreBelow me.0.plan i below → me.1 ≡ below ++ (i, x) ∷ [] → ArrivesWith i me n after
     → ArrivesWith i (me.0, (i, x) ∷ []) n after
-arrives_alone i x below me after n b e h = record { root_zero = h.root_zero; waits = h.waits; both = λ ne. (let t = h.both ne in (t.0, (t.1.0, (t.1.1.0, (t.1.1.1.0, t.1.1.1.1 ∙ ap (λ (o : Option PartState). (mother me.0.plan i, None) ∷ (sibling me.0.plan i, Some t.1.1.0) ∷ (i, o) ∷ []) (last below b e)))))) }
+arrives_alone i x below me after n b e h = record { root_zero = h.root_zero; waits = h.waits; both = λ ne. (let t = h.both ne in (t.0, (t.1.0, (t.1.1.0, (t.1.1.1.0, t.1.1.1.1 ∙ ap (λ (o : Option PartState). (parent me.0.plan i, None) ∷ (sibling me.0.plan i, Some t.1.1.0) ∷ (i, o) ∷ []) (last below b e)))))) }
   where
     last : (below : List (ℕ × Option PartState)) → AreBelow me.0.plan i below → me.1 ≡ below ++ (i, x) ∷ [] → last_of me.1 ≡ x
     last [] b e = ap last_of e

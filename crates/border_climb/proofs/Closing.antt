@@ -68,8 +68,8 @@ single-kept e s a b k m none g i up =
 -- what a state of the merge says of the ends
 pub apart-merging : (pool : CellPool) (e : ListedEdge) (s : EdgeList) (t : ℕ) (first second : Option ℕ) → (m : IsMerging pool e s t first second) → Apart e s m.a m.b (suc m.edge.rank)
 apart-merging pool e s t first second m =
-    let base : e.rank ≤ m.edge.rank = m.above in
-    record { apart = m.apart; ends = m.ends; above = omega arith; unjoined = m.unjoined }
+    let base : e.rank ≤ m.edge.rank = m.cell.above in
+    record { apart = m.cell.apart; ends = m.ends.are; above = omega arith; unjoined = m.ends.unjoined }
 
 -- The second chain has ended: cell t is linked to the first, and the ends weren't joined.
 pub close-single : (old new : CellPool) (e : ListedEdge) (s : EdgeList) (t : ℕ) (first : Option ℕ) → IsMerging old e s t first None → IsRelinked old new t first →
@@ -77,21 +77,21 @@ pub close-single : (old new : CellPool) (e : ListedEdge) (s : EdgeList) (t : ℕ
 close-single old new e s t first m link = (
   record {
     leafs = λ x cov. subst (λ (o : Option ℕ). Points new o (next (e ∷ s) x 0)) (sym (link.kept.leafs x))
-        (points-kept old new (relinked-ranks old new t first link) (leaf_of old x) (next (e ∷ s) x 0) (m.leafs x (link.kept.covered x cov)));
+        (points-kept old new (relinked-ranks old new t first link) (leaf_of old x) (next (e ∷ s) x 0) (m.others.leafs x (link.kept.covered x cov)));
     cells = cells;
-    alone = relinked-alone old new t first link m.seat.cell m.seat.is m.alone;
+    alone = relinked-alone old new t first link m.cell.seat.cell m.cell.seat.is m.others.alone;
   },
   never-joined e s m.a m.b (suc m.edge.rank) (apart-merging old e s t first None m) (points-none old _ m.second_link),
 )
   where
-    here : (d : Cell) → d.rank ≡ m.seat.cell.rank → d.up ≡ first → IsCellOf new (e ∷ s) d
+    here : (d : Cell) → d.rank ≡ m.cell.seat.cell.rank → d.up ≡ first → IsCellOf new (e ∷ s) d
     here d r up =
         let comes : next (e ∷ s) m.edge.u (suc m.edge.rank) ≡ next s m.a (suc m.edge.rank) =
-        next-single e s m.a m.b (suc m.edge.rank) (apart-merging old e s t first None m) m.edge.u m.at_end (points-none old _ m.second_link) in
+        next-single e s m.a m.b (suc m.edge.rank) (apart-merging old e s t first None m) m.edge.u m.ends.at_end (points-none old _ m.second_link) in
         record {
           edge = m.edge;
-          joins = m.joins;
-          rank = r ∙ m.seat.has;
+          joins = m.cell.joins;
+          rank = r ∙ m.cell.seat.has;
           up = subst (λ (o : Option ℕ). Points new o (next (e ∷ s) m.edge.u (suc m.edge.rank))) (sym up)
               (points-kept old new (relinked-ranks old new t first link) first (next (e ∷ s) m.edge.u (suc m.edge.rank))
               (subst (λ (w : Option ListedEdge). Points old first w) (sym comes) m.first_link));
@@ -100,10 +100,10 @@ close-single old new e s t first m link = (
     other : (j : ℕ) (d : Cell) → (j ≡ t → ⊥) → cell_at old j ≡ Some d → IsCellOf new (e ∷ s) d
     other j d unlike eq =
         elim (cases_order d.rank m.edge.rank) [
-          | inl same ↦ absurd (unlike (m.alone j t d m.seat.cell eq m.seat.is (same ∙ sym m.seat.has)))
+          | inl same ↦ absurd (unlike (m.others.alone j t d m.cell.seat.cell eq m.cell.seat.is (same ∙ sym m.cell.seat.has)))
           | inr rest ↦ elim rest [
-            | inl lower ↦ cell-kept old new (relinked-ranks old new t first link) (e ∷ s) d (m.low j d eq lower)
-            | inr higher ↦ (let q = m.high j d eq higher in
+            | inl lower ↦ cell-kept old new (relinked-ranks old new t first link) (e ∷ s) d (m.others.low j d eq lower)
+            | inr higher ↦ (let q = m.others.high j d eq higher in
                 let r : d.rank ≡ q.edge.rank = q.rank in
                 let far = apart-merging old e s t first None m in
                 let none = points-none old (next s m.b (suc m.edge.rank)) m.second_link in
@@ -118,7 +118,7 @@ close-single old new e s t first m link = (
         ]
 
     cells : (j : ℕ) (d : Cell) → cell_at new j ≡ Some d → IsCellOf new (e ∷ s) d
-    cells j d eq = elim (relinked-cases old new t first link m.seat.cell m.seat.is j d eq) [
+    cells j d eq = elim (relinked-cases old new t first link m.cell.seat.cell m.cell.seat.is j d eq) [
       | inl at ↦ here d at.1.0 at.1.1
       | inr off ↦ other j d off.0 off.1
     ]
@@ -208,7 +208,7 @@ meeting-merging pool e s t i m = go (next s m.a (suc m.edge.rank)) (next s m.b (
     go (Some f) (Some g) ev ew p q =
         let cells : Some p.cell ≡ Some q.cell = sym p.is ∙ q.is in
         let cells' : p.cell ≡ q.cell = cc in
-        let same : f ≡ g = apart-one s m.apart.1 f g (next-is s m.apart.1 m.a (suc m.edge.rank) f ev).0 (next-is s m.apart.1 m.b (suc m.edge.rank) g ew).0
+        let same : f ≡ g = apart-one s m.cell.apart.1 f g (next-is s m.cell.apart.1 m.a (suc m.edge.rank) f ev).0 (next-is s m.cell.apart.1 m.b (suc m.edge.rank) g ew).0
         (sym p.has ∙ ap (λ (c : Cell). c.rank) cells' ∙ q.has) in
         (f, (record { far = apart-merging pool e s t (Some i) (Some i) m; first = ev; second = ew ∙ ap Some (sym same) }, p))
 
@@ -220,7 +220,7 @@ close-both old mid new e s t i c m is link drop =
     let w = meeting-merging old e s t i m in
     let same : Some w.1.1.cell ≡ Some c = sym w.1.1.is ∙ is in
     let same' : w.1.1.cell ≡ c = cc in
-    (links w.0 w.1.0 w.1.1, (w.0, (meets-ends e s m.a m.b w.0 m.ends (meets-first e s m.a m.b (suc m.edge.rank) w.0 w.1.0), sym w.1.1.has ∙ ap (λ (y : Cell). y.rank) same')))
+    (links w.0 w.1.0 w.1.1, (w.0, (meets-ends e s m.a m.b w.0 m.ends.are (meets-first e s m.a m.b (suc m.edge.rank) w.0 w.1.0), sym w.1.1.has ∙ ap (λ (y : Cell). y.rank) same')))
   where
     keeps : KeepsRanks old mid
     keeps = relinked-ranks old mid t c.up link
@@ -232,7 +232,7 @@ close-both old mid new e s t i c m is link drop =
           | inl same ↦ (let cells : Some h.cell ≡ Some at.cell = sym h.is ∙ ap (λ (n : ℕ). cell_at old n) same ∙ at.is in
               let cells' : h.cell ≡ at.cell = cc in
               let level : f.rank ≡ z.rank = sym h.has ∙ ap (λ (y : Cell). y.rank) cells' ∙ at.has in
-              let one : f ≡ z = apart-one (e ∷ s) m.apart f z (IsIn-joins_kept (e ∷ s) f on).0 (inr (next-is s m.apart.1 m.a (suc m.edge.rank) z meet.first).0) level in
+              let one : f ≡ z = apart-one (e ∷ s) m.cell.apart f z (IsIn-joins_kept (e ∷ s) f on).0 (inr (next-is s m.cell.apart.1 m.a (suc m.edge.rank) z meet.first).0) level in
               absurd (drops-out e s m.a m.b (suc m.edge.rank) z meet (subst (λ (g : ListedEdge). IsIn g (joins (e ∷ s))) one on)))
           | inr other ↦ (let k = keeps j f.rank h in record { cell = k.cell; is = drop.others j other ∙ k.is; has = k.has })
         ]
@@ -242,7 +242,7 @@ close-both old mid new e s t i c m is link drop =
     points z meet at None x k (Some f) eq p = absurd p
     points z meet at (Some j) x k None eq p = absurd p
     points z meet at (Some j) x k (Some f) eq p =
-        let n = next-is (e ∷ s) m.apart x k f eq in
+        let n = next-is (e ∷ s) m.cell.apart x k f eq in
         let q = IsIn-chain_kept (e ∷ s) x f (IsIn-leaving (e ∷ s) x f n.0 n.1.0) in
         stays z meet at f (IsIn-joins (e ∷ s) f q.member q.joining) j p
 
@@ -250,14 +250,14 @@ close-both old mid new e s t i c m is link drop =
     other : (z : ListedEdge) → IsMeeting e s m.a m.b (suc m.edge.rank) z → HasRank old i z.rank → (j : ℕ) (d : Cell) → (j ≡ t → ⊥) → (j ≡ i → ⊥) → cell_at old j ≡ Some d → IsCellOf new (e ∷ s) d
     other z meet at j d not_t not_i eq =
         elim (cases_order d.rank m.edge.rank) [
-          | inl same ↦ absurd (not_t (m.alone j t d m.seat.cell eq m.seat.is (same ∙ sym m.seat.has)))
+          | inl same ↦ absurd (not_t (m.others.alone j t d m.cell.seat.cell eq m.cell.seat.is (same ∙ sym m.cell.seat.has)))
           | inr rest ↦ elim rest [
-            | inl lower ↦ (let q = m.low j d eq lower in
+            | inl lower ↦ (let q = m.others.low j d eq lower in
                 record { edge = q.edge; joins = q.joins; rank = q.rank; up = points z meet at d.up q.edge.u (suc q.edge.rank) (next (e ∷ s) q.edge.u (suc q.edge.rank)) refl q.up })
-            | inr higher ↦ (let q = m.high j d eq higher in
+            | inr higher ↦ (let q = m.others.high j d eq higher in
                 let r : d.rank ≡ q.edge.rank = q.rank in
                 let kept = meeting-kept e s m.a m.b (suc m.edge.rank) z meet q.edge q.joins (omega arith)
-                (λ level. not_i (m.alone j i d at.cell eq at.is (q.rank ∙ level ∙ sym at.has))) in
+                (λ level. not_i (m.others.alone j i d at.cell eq at.is (q.rank ∙ level ∙ sym at.has))) in
                 record {
                   edge = q.edge;
                   joins = kept.0;
@@ -269,20 +269,20 @@ close-both old mid new e s t i c m is link drop =
         ]
 
     -- the cell that was linked
-    here : (z : ListedEdge) → IsMeeting e s m.a m.b (suc m.edge.rank) z → HasRank old i z.rank → (d : Cell) → d.rank ≡ m.seat.cell.rank → d.up ≡ c.up → IsCellOf new (e ∷ s) d
+    here : (z : ListedEdge) → IsMeeting e s m.a m.b (suc m.edge.rank) z → HasRank old i z.rank → (d : Cell) → d.rank ≡ m.cell.seat.cell.rank → d.up ≡ c.up → IsCellOf new (e ∷ s) d
     here z meet at d r up =
         let cells : Some at.cell ≡ Some c = sym at.is ∙ is in
         let cells' : at.cell ≡ c = cc in
         let level : c.rank ≡ z.rank = sym (ap (λ (y : Cell). y.rank) cells') ∙ at.has in
-        let above : suc m.edge.rank ≤ z.rank = (next-is s m.apart.1 m.a (suc m.edge.rank) z meet.first).1.1 in
-        let q = m.high i c is (omega arith) in
+        let above : suc m.edge.rank ≤ z.rank = (next-is s m.cell.apart.1 m.a (suc m.edge.rank) z meet.first).1.1 in
+        let q = m.others.high i c is (omega arith) in
         let behind : Points old c.up (next s z.u (suc z.rank)) = subst (λ (g : ListedEdge). Points old c.up (next s g.u (suc g.rank)))
-        (cell-edge old s m.apart.1 c q z (next-is s m.apart.1 m.a (suc m.edge.rank) z meet.first).0 level) q.up in
-        let comes : next (e ∷ s) m.edge.u (suc m.edge.rank) ≡ next s z.u (suc z.rank) = next-both e s m.a m.b (suc m.edge.rank) meet.far m.edge.u m.at_end z meet.first meet.second in
+        (cell-edge old s m.cell.apart.1 c q z (next-is s m.cell.apart.1 m.a (suc m.edge.rank) z meet.first).0 level) q.up in
+        let comes : next (e ∷ s) m.edge.u (suc m.edge.rank) ≡ next s z.u (suc z.rank) = next-both e s m.a m.b (suc m.edge.rank) meet.far m.edge.u m.ends.at_end z meet.first meet.second in
         record {
           edge = m.edge;
-          joins = m.joins;
-          rank = r ∙ m.seat.has;
+          joins = m.cell.joins;
+          rank = r ∙ m.cell.seat.has;
           up = subst (λ (o : Option ℕ). Points new o (next (e ∷ s) m.edge.u (suc m.edge.rank))) (sym up)
               (points z meet at c.up m.edge.u (suc m.edge.rank) (next (e ∷ s) m.edge.u (suc m.edge.rank)) refl
               (subst (λ (v : Option ListedEdge). Points old c.up v) (sym comes) behind));
@@ -302,11 +302,11 @@ close-both old mid new e s t i c m is link drop =
     links : (z : ListedEdge) → IsMeeting e s m.a m.b (suc m.edge.rank) z → HasRank old i z.rank → AreLinked new (e ∷ s)
     links z meet at = record {
       leafs = λ x cov. subst (λ (o : Option ℕ). Points new o (next (e ∷ s) x 0)) (sym (drop.kept.leafs x ∙ link.kept.leafs x))
-          (points z meet at (leaf_of old x) x 0 (next (e ∷ s) x 0) refl (m.leafs x (link.kept.covered x (drop.kept.covered x cov))));
+          (points z meet at (leaf_of old x) x 0 (next (e ∷ s) x 0) refl (m.others.leafs x (link.kept.covered x (drop.kept.covered x cov))));
       cells = λ j d eq. (let l = left j d eq in
-          elim (relinked-cases old mid t c.up link m.seat.cell m.seat.is j d l.1) [
+          elim (relinked-cases old mid t c.up link m.cell.seat.cell m.cell.seat.is j d l.1) [
             | inl p ↦ here z meet at d p.1.0 p.1.1
             | inr p ↦ other z meet at j d p.0 l.0 p.1
           ]);
-      alone = λ j k b d eb ed r. relinked-alone old mid t c.up link m.seat.cell m.seat.is m.alone j k b d (left j b eb).1 (left k d ed).1 r;
+      alone = λ j k b d eb ed r. relinked-alone old mid t c.up link m.cell.seat.cell m.cell.seat.is m.others.alone j k b d (left j b eb).1 (left k d ed).1 r;
     }

@@ -81,21 +81,17 @@ relinked-alone old new id up m c is alone i j b d eb ed r =
 pub merging-turned : (pool : CellPool) (e : ListedEdge) (s : EdgeList) (t : ℕ) (first second : Option ℕ) → IsMerging pool e s t first second → IsMerging pool e s t second first
 merging-turned pool e s t first second m = record {
   edge = m.edge;
-  seat = m.seat;
-  joins = m.joins;
-  apart = m.apart;
-  above = m.above;
   a = m.b;
   b = m.a;
-  ends = (elim m.ends [ inl p ↦ inr (p.1, p.0) | inr p ↦ inl (p.1, p.0) ]);
-  unjoined = apart-back (below s (suc m.edge.rank)) m.a m.b m.unjoined;
-  at_end = or-turned (joined (below s (suc m.edge.rank)) m.edge.u m.a) (joined (below s (suc m.edge.rank)) m.edge.u m.b) m.at_end;
+  cell = m.cell;
+  ends = record {
+    are = (elim m.ends.are [ inl p ↦ inr (p.1, p.0) | inr p ↦ inl (p.1, p.0) ]);
+    unjoined = apart-back (below s (suc m.edge.rank)) m.a m.b m.ends.unjoined;
+    at_end = or-turned (joined (below s (suc m.edge.rank)) m.edge.u m.a) (joined (below s (suc m.edge.rank)) m.edge.u m.b) m.ends.at_end;
+  };
   first_link = m.second_link;
   second_link = m.first_link;
-  leafs = m.leafs;
-  low = m.low;
-  high = m.high;
-  alone = m.alone;
+  others = m.others;
 }
 
 -- The lower chain's run: f is an edge of a's chain from rank k on, before what comes next on b's.
@@ -159,60 +155,66 @@ pub run-along : (old new : CellPool) (e : ListedEdge) (s : EdgeList) (t i : ℕ)
 run-along old new e s t i second m link f on from before u c is level =
     let k : ℕ = suc m.edge.rank in
     let far : m.edge.rank < f.rank = omega arith in
-    let base : e.rank ≤ m.edge.rank = m.above in
-    let run : IsRun e s m.a m.b (suc m.edge.rank) f = record { apart = m.apart; ends = m.ends; above = omega arith; unjoined = m.unjoined; on_chain = on; from = from; before = before } in
+    let base : e.rank ≤ m.edge.rank = m.cell.above in
+    let run : IsRun e s m.a m.b (suc m.edge.rank) f = record { apart = m.cell.apart; ends = m.ends.are; above = omega arith; unjoined = m.ends.unjoined; on_chain = on; from = from; before = before } in
     let keeps = relinked-ranks old new t (Some i) link in
     let out = IsIn-leaving_kept s m.a f on in
     let chained = IsIn-chain_kept s m.a f on in
     let behind : Apart e s m.a m.b (suc f.rank) = run-apart e s m.a m.b (suc m.edge.rank) f run (suc f.rank) (omega arith) (omega arith) in
     let in_joins : IsIn f (joins s) = joining f (IsIn-chain_kept s m.a f on) in
-    let q = m.high u c is (omega arith) in
+    let q = m.others.high u c is (omega arith) in
     record {
       edge = f;
-      seat = keeps u f.rank (record { cell = c; is = is; has = level });
-      joins = joins-stays e s m.a m.b f behind in_joins;
-      apart = m.apart;
-      above = omega arith;
       a = m.a;
       b = m.b;
-      ends = m.ends;
-      unjoined = behind.unjoined;
-      at_end = or_left _ _ ((IsSame-joined (below s (suc f.rank))).back m.a f.u (joined-to_end s f m.a out.0 out.1));
+      cell = record {
+        seat = keeps u f.rank (record { cell = c; is = is; has = level });
+        joins = joins-stays e s m.a m.b f behind in_joins;
+        apart = m.cell.apart;
+        above = omega arith;
+      };
+      ends = record {
+        are = m.ends.are;
+        unjoined = behind.unjoined;
+        at_end = or_left _ _ ((IsSame-joined (below s (suc f.rank))).back m.a f.u (joined-to_end s f m.a out.0 out.1));
+      };
       first_link = points-kept old new keeps c.up (next s m.a (suc f.rank))
-          (subst (λ (w : Option ListedEdge). Points old c.up w) (sym (next-behind s m.apart.1 m.a f out.0 out.1))
-          (subst (λ (g : ListedEdge). Points old c.up (next s g.u (suc g.rank))) (cell-edge old s m.apart.1 c q f out.0 level) q.up));
+          (subst (λ (w : Option ListedEdge). Points old c.up w) (sym (next-behind s m.cell.apart.1 m.a f out.0 out.1))
+          (subst (λ (g : ListedEdge). Points old c.up (next s g.u (suc g.rank))) (cell-edge old s m.cell.apart.1 c q f out.0 level) q.up));
       second_link = points-kept old new keeps second (next s m.b (suc f.rank))
-          (subst (λ (w : Option ListedEdge). Points old second w) (sym (next-later s m.apart.1 m.b (suc m.edge.rank) (suc f.rank) (omega arith) (IsUpTo-after (next s m.b (suc m.edge.rank)) f.rank before))) m.second_link);
-      leafs = λ x cov. subst (λ (o : Option ℕ). Points new o (next (e ∷ s) x 0)) (sym (link.kept.leafs x))
-          (points-kept old new keeps (leaf_of old x) (next (e ∷ s) x 0) (m.leafs x (link.kept.covered x cov)));
-      low = λ j d eq less. elim (relinked-cases old new t (Some i) link m.seat.cell m.seat.is j d eq) [
-        | inl at ↦ here keeps d at.1.0 at.1.1
-        | inr other ↦ between run keeps j d other.0 other.1 less
-      ];
-      high = λ j d eq more. elim (relinked-cases old new t (Some i) link m.seat.cell m.seat.is j d eq) [
-        | inl at ↦ absurd (let x : d.rank ≡ m.seat.cell.rank = at.1.0 in let y : m.seat.cell.rank ≡ m.edge.rank = m.seat.has in omega arith)
-        | inr other ↦ cell-kept old new keeps s d (m.high j d other.1 (omega arith))
-      ];
-      alone = relinked-alone old new t (Some i) link m.seat.cell m.seat.is m.alone;
+          (subst (λ (w : Option ListedEdge). Points old second w) (sym (next-later s m.cell.apart.1 m.b (suc m.edge.rank) (suc f.rank) (omega arith) (IsUpTo-after (next s m.b (suc m.edge.rank)) f.rank before))) m.second_link);
+      others = record {
+        leafs = λ x cov. subst (λ (o : Option ℕ). Points new o (next (e ∷ s) x 0)) (sym (link.kept.leafs x))
+            (points-kept old new keeps (leaf_of old x) (next (e ∷ s) x 0) (m.others.leafs x (link.kept.covered x cov)));
+        low = λ j d eq less. elim (relinked-cases old new t (Some i) link m.cell.seat.cell m.cell.seat.is j d eq) [
+          | inl at ↦ here keeps d at.1.0 at.1.1
+          | inr other ↦ between run keeps j d other.0 other.1 less
+        ];
+        high = λ j d eq more. elim (relinked-cases old new t (Some i) link m.cell.seat.cell m.cell.seat.is j d eq) [
+          | inl at ↦ absurd (let x : d.rank ≡ m.cell.seat.cell.rank = at.1.0 in let y : m.cell.seat.cell.rank ≡ m.edge.rank = m.cell.seat.has in omega arith)
+          | inr other ↦ cell-kept old new keeps s d (m.others.high j d other.1 (omega arith))
+        ];
+        alone = relinked-alone old new t (Some i) link m.cell.seat.cell m.cell.seat.is m.others.alone;
+      };
     }
   where
     joining : (g : ListedEdge) → IsOnChain s m.a g → IsIn g (joins s)
     joining g h = IsIn-joins s g h.member h.joining
 
     -- the cell that was linked
-    here : KeepsRanks old new → (d : Cell) → d.rank ≡ m.seat.cell.rank → d.up ≡ Some i → IsCellOf new (e ∷ s) d
+    here : KeepsRanks old new → (d : Cell) → d.rank ≡ m.cell.seat.cell.rank → d.up ≡ Some i → IsCellOf new (e ∷ s) d
     here keeps d r up =
         let p = points-some old i (next s m.a (suc m.edge.rank)) m.first_link in
-        let base : e.rank ≤ m.edge.rank = m.above in
-        let first = next-some s m.apart.1 m.a (suc m.edge.rank) f (IsIn-leaving_kept s m.a f on).0 from (IsIn-leaving_kept s m.a f on).1 in
+        let base : e.rank ≤ m.edge.rank = m.cell.above in
+        let first = next-some s m.cell.apart.1 m.a (suc m.edge.rank) f (IsIn-leaving_kept s m.a f on).0 from (IsIn-leaving_kept s m.a f on).1 in
         let near : first.0.rank ≤ f.rank = first.1.1 in
         let comes : next (e ∷ s) m.edge.u (suc m.edge.rank) ≡ Some first.0 =
-        next-lower e s m.a m.b (suc m.edge.rank) (record { apart = m.apart; ends = m.ends; above = omega arith; unjoined = m.unjoined }) m.edge.u m.at_end first.0 first.1.0
+        next-lower e s m.a m.b (suc m.edge.rank) (record { apart = m.cell.apart; ends = m.ends.are; above = omega arith; unjoined = m.ends.unjoined }) m.edge.u m.ends.at_end first.0 first.1.0
         (IsBefore-to (next s m.b (suc m.edge.rank)) first.0.rank f.rank near before) in
         record {
           edge = m.edge;
-          joins = m.joins;
-          rank = r ∙ m.seat.has;
+          joins = m.cell.joins;
+          rank = r ∙ m.cell.seat.has;
           up = subst (λ (o : Option ℕ). Points new o (next (e ∷ s) m.edge.u (suc m.edge.rank))) (sym up)
               (points-kept old new keeps (Some i) (next (e ∷ s) m.edge.u (suc m.edge.rank))
               (subst (λ (w : Option ListedEdge). Points old (Some i) w) (first.1.0 ∙ sym comes) m.first_link));
@@ -222,10 +224,10 @@ run-along old new e s t i second m link f on from before u c is level =
     between : IsRun e s m.a m.b (suc m.edge.rank) f → KeepsRanks old new → (j : ℕ) (d : Cell) → (j ≡ t → ⊥) → cell_at old j ≡ Some d → d.rank < f.rank → IsCellOf new (e ∷ s) d
     between run keeps j d other eq less =
         elim (cases_order d.rank m.edge.rank) [
-          | inl same ↦ absurd (other (m.alone j t d m.seat.cell eq m.seat.is (same ∙ sym m.seat.has)))
+          | inl same ↦ absurd (other (m.others.alone j t d m.cell.seat.cell eq m.cell.seat.is (same ∙ sym m.cell.seat.has)))
           | inr unlike ↦ elim unlike [
-            | inl lower ↦ cell-kept old new keeps (e ∷ s) d (m.low j d eq lower)
-            | inr higher ↦ (let q = m.high j d eq higher in
+            | inl lower ↦ cell-kept old new keeps (e ∷ s) d (m.others.low j d eq lower)
+            | inr higher ↦ (let q = m.others.high j d eq higher in
                 let r : d.rank ≡ q.edge.rank = q.rank in
                 record {
                   edge = q.edge;

@@ -106,21 +106,27 @@ pub opening : (old new : CellPool) (e : ListedEdge) (s : EdgeList) (first second
     IsMerging new e s id (up_of old e.u first) (up_of old e.v second)
 opening old new e s first second id m = record {
   edge = e;
-  seat = seat;
-  joins = joins-new e s needed;
-  apart = m.apart;
-  above = omega arith;
   a = e.u;
   b = e.v;
-  ends = inl (refl, refl);
-  unjoined = joined-step_without s e.rank (λ f i r. m.apart.0 f i (sym r)) e.u e.v ∙ m.unjoined;
-  at_end = or_left _ _ ((IsSame-joined (below s (suc e.rank))).self e.u);
+  cell = record {
+    seat = seat;
+    joins = joins-new e s needed;
+    apart = m.apart;
+    above = omega arith;
+  };
+  ends = record {
+    are = inl (refl, refl);
+    unjoined = joined-step_without s e.rank (λ f i r. m.apart.0 f i (sym r)) e.u e.v ∙ m.unjoined;
+    at_end = or_left _ _ ((IsSame-joined (below s (suc e.rank))).self e.u);
+  };
   first_link = points-kept old new ranks (up_of old e.u first) (next s e.u (suc e.rank)) (last-up old s m.apart.1 m.links e.u e.rank m.first_end first m.first_last);
   second_link = points-kept old new ranks (up_of old e.v second) (next s e.v (suc e.rank)) (last-up old s m.apart.1 m.links e.v e.rank m.second_end second m.second_last);
-  leafs = leafs;
-  low = low;
-  high = high;
-  alone = alone;
+  others = record {
+    leafs = leafs;
+    low = low;
+    high = high;
+    alone = alone;
+  };
 }
   where
     needed : IsRedundant e s → ⊥

@@ -49,7 +49,7 @@ met-leads pool s h l k c q low j b is up =
 
 -- the cells above a seam are linked as by the list without e
 pub seam-linked : (pool : CellPool) (e : ListedEdge) (s : EdgeList) (t : ℕ) (first second : Option ℕ) → (m : IsMerging pool e s t first second) → AreLinkedFrom pool s (suc m.edge.rank)
-seam-linked pool e s t first second m = record { cells = λ i c is low. m.high i c is low; alone = m.alone }
+seam-linked pool e s t first second m = record { cells = λ i c is low. m.others.high i c is low; alone = m.others.alone }
 
 -- what comes next on the first chain is above the seam
 pub seam-next : (pool : CellPool) (e : ListedEdge) (s : EdgeList) (t i : ℕ) (second : Option ℕ) → (m : IsMerging pool e s t (Some i) second) → (c : Cell) → cell_at pool i ≡ Some c →
@@ -59,7 +59,7 @@ seam-next pool e s t i second m c is = go (next s m.a (suc m.edge.rank)) refl m.
     go : (w : Option ListedEdge) → next s m.a (suc m.edge.rank) ≡ w → Points pool (Some i) w → (f : ListedEdge) × ((next s m.a (suc m.edge.rank) ≡ Some f) × (c.rank ≡ f.rank) × (m.edge.rank < c.rank))
     go None eq p = absurd p
     go (Some f) eq p =
-        let above : suc m.edge.rank ≤ f.rank = (next-is s m.apart.1 m.a (suc m.edge.rank) f eq).1.1 in
+        let above : suc m.edge.rank ≤ f.rank = (next-is s m.cell.apart.1 m.a (suc m.edge.rank) f eq).1.1 in
         let level : c.rank ≡ f.rank = seat-rank pool i f.rank c p is in
         (f, (eq, level, omega arith))
 
@@ -70,8 +70,8 @@ seam-climbable pool e s t i second m r h =
     let above : m.merging.edge.rank < h.cell.rank = n.1.2 in
     let level : h.cell.rank ≡ r = h.has in
     record {
-      ups = λ j k c is low up. cell-rises pool s m.merging.apart.1 c (m.merging.high j c is (omega arith)) k up;
-      hints = λ j c hint is low eq v. met-leads pool s m.merging.apart.1 (suc m.merging.edge.rank) (seam-linked pool e s t (Some i) second m.merging) c (m.merging.high j c is (omega arith)) (omega arith)
+      ups = λ j k c is low up. cell-rises pool s m.merging.cell.apart.1 c (m.merging.others.high j c is (omega arith)) k up;
+      hints = λ j c hint is low eq v. met-leads pool s m.merging.cell.apart.1 (suc m.merging.edge.rank) (seam-linked pool e s t (Some i) second m.merging) c (m.merging.others.high j c is (omega arith)) (omega arith)
           hint.cell v.cell v.is (m.noted.hints j c hint is eq v);
     }
 
@@ -81,21 +81,23 @@ merging-same p q same e s t first second m =
     let keeps : KeepsRanks p q = rank-same p q same in
     record {
       edge = m.edge;
-      seat = rank-same p q same t m.edge.rank m.seat;
-      joins = m.joins;
-      apart = m.apart;
-      above = m.above;
       a = m.a;
       b = m.b;
+      cell = record {
+        seat = rank-same p q same t m.edge.rank m.cell.seat;
+        joins = m.cell.joins;
+        apart = m.cell.apart;
+        above = m.cell.above;
+      };
       ends = m.ends;
-      unjoined = m.unjoined;
-      at_end = m.at_end;
       first_link = points-kept p q keeps first (next s m.a (suc m.edge.rank)) m.first_link;
       second_link = points-kept p q keeps second (next s m.b (suc m.edge.rank)) m.second_link;
-      leafs = λ x cov. subst (λ (o : Option ℕ). Points q o (next (e ∷ s) x 0)) (sym (same.leafs x)) (points-kept p q keeps (leaf_of p x) (next (e ∷ s) x 0) (m.leafs x (same.covered x cov)));
-      low = λ i c is less. cell-kept p q keeps (e ∷ s) c (m.low i c (sym (same.cells i) ∙ is) less);
-      high = λ i c is more. cell-kept p q keeps s c (m.high i c (sym (same.cells i) ∙ is) more);
-      alone = λ i j b c eb ec r. m.alone i j b c (sym (same.cells i) ∙ eb) (sym (same.cells j) ∙ ec) r;
+      others = record {
+        leafs = λ x cov. subst (λ (o : Option ℕ). Points q o (next (e ∷ s) x 0)) (sym (same.leafs x)) (points-kept p q keeps (leaf_of p x) (next (e ∷ s) x 0) (m.others.leafs x (same.covered x cov)));
+        low = λ i c is less. cell-kept p q keeps (e ∷ s) c (m.others.low i c (sym (same.cells i) ∙ is) less);
+        high = λ i c is more. cell-kept p q keeps s c (m.others.high i c (sym (same.cells i) ∙ is) more);
+        alone = λ i j b c eb ec r. m.others.alone i j b c (sym (same.cells i) ∙ eb) (sym (same.cells j) ∙ ec) r;
+      };
     }
 
 -- notes that a climb above the seam has made are of the list
@@ -111,7 +113,7 @@ seam-noted p q e s t first second m l above n =
           | inr made ↦ (let one : made.cell ≡ c = one-cell p i made.cell c made.is (sym (same.cells i) ∙ is) in
               let from : l ≤ made.cell.rank = made.from in
               subst (λ (y : Cell). LeadsUp s y.rank v.cell.rank) one
-              (leads-met p s m.merging.apart.1 (suc m.merging.edge.rank) (seam-linked p e s t first second m.merging) made.cell (m.merging.high i made.cell made.is (omega arith)) (omega arith)
+              (leads-met p s m.merging.cell.apart.1 (suc m.merging.edge.rank) (seam-linked p e s t first second m.merging) made.cell (m.merging.others.high i made.cell made.is (omega arith)) (omega arith)
               made.links h.cell made.met v.cell (sym (same.cells h.cell) ∙ v.is)))
         ];
         fingers = λ x h cov eq v. m.noted.fingers x h (same.covered x cov) (finger x h eq) (live-same q p back h v);

@@ -135,7 +135,7 @@ advanced old mid new t low high top c k e s m =
     let same = links-noted old mid low.rank k.noted in
     let held : IsSeam mid e s t (Some low.id) (Some high.id) = seam-noted old mid e s t (Some low.id) (Some high.id) m low.rank (omega arith) k.noted in
     let there : cell_at mid top.id ≡ Some k.climbed.reached.seat.cell = same.cells top.id ∙ k.climbed.reached.seat.is in
-    let f = chain-met mid s held.merging.apart.1 (suc held.merging.edge.rank) (seam-linked mid e s t (Some low.id) (Some high.id) held.merging) k.climbed.reached.links held.merging.a (suc held.merging.edge.rank)
+    let f = chain-met mid s held.merging.cell.apart.1 (suc held.merging.edge.rank) (seam-linked mid e s t (Some low.id) (Some high.id) held.merging) k.climbed.reached.links held.merging.a (suc held.merging.edge.rank)
     (Some low.id) (next s held.merging.a (suc held.merging.edge.rank)) (omega arith) refl held.merging.first_link top.id
     (met-same old mid same k.climbed.reached.links (Some low.id) top.id k.climbed.reached.met) k.climbed.reached.seat.cell there in
     let from : suc held.merging.edge.rank ≤ f.0.rank = f.1.1.0 in
@@ -146,10 +146,10 @@ advanced old mid new t low high top c k e s m =
     let c_level : c.rank ≡ f.0.rank = ap (λ (y : Cell). y.rank) one ∙ f.1.1.1 in
     let high_there : HasRank mid high.id high.rank = record { cell = k.high_seat.cell; is = same.cells high.id ∙ k.high_seat.is; has = k.high_seat.has } in
     record {
-      merging = run-along mid new e s t low.id (Some high.id) held.merging (relinked-written mid new t (Some low.id) held.merging.seat.cell held.merging.seat.is k.written)
+      merging = run-along mid new e s t low.id (Some high.id) held.merging (relinked-written mid new t (Some low.id) held.merging.cell.seat.cell held.merging.cell.seat.is k.written)
           f.0 f.1.0 from (before-high mid high.id high.rank (next s held.merging.b (suc held.merging.edge.rank)) held.merging.second_link f.0.rank high_there (omega arith))
           top.id c k.is c_level;
-      noted = noted-fewer mid new (notes-relinked mid new t (Some low.id) held.merging.seat.cell held.merging.seat.is k.written) s held.noted;
+      noted = noted-fewer mid new (notes-relinked mid new t (Some low.id) held.merging.cell.seat.cell held.merging.cell.seat.is k.written) s held.noted;
     }
 
 -- the rank of a seat
@@ -163,36 +163,36 @@ advanced-rises old mid new t low high top c k e s m =
     let above : m.merging.edge.rank < k.low_seat.cell.rank = n.1.2 in
     let low_is : k.low_seat.cell.rank ≡ low.rank = k.low_seat.has in
     let from : low.rank ≤ top.rank = k.climbed.reached.from in
-    let at : rank_of old t ≡ m.merging.edge.rank = seat-rank_of old t m.merging.edge.rank m.merging.seat in
+    let at : rank_of old t ≡ m.merging.edge.rank = seat-rank_of old t m.merging.edge.rank m.merging.cell.seat in
     let same = links-noted old mid low.rank k.noted in
     let held = seam-noted old mid e s t (Some low.id) (Some high.id) m low.rank (omega arith) k.noted in
     let there : HasRank mid top.id top.rank = record { cell = k.climbed.reached.seat.cell; is = same.cells top.id ∙ k.climbed.reached.seat.is; has = k.climbed.reached.seat.has } in
     let to : rank_of new top.id ≡ top.rank = seat-rank_of new top.id top.rank
-    (relinked-ranks mid new t (Some low.id) (relinked-written mid new t (Some low.id) held.merging.seat.cell held.merging.seat.is k.written) top.id top.rank there) in
+    (relinked-ranks mid new t (Some low.id) (relinked-written mid new t (Some low.id) held.merging.cell.seat.cell held.merging.cell.seat.is k.written) top.id top.rank there) in
     (omega arith, to)
 
 -- the chains come to one cell
 pub replaced : (old mid new : CellPool) (e : ListedEdge) (s : EdgeList) (t i : ℕ) (c : Cell) → IsSeam old e s t (Some i) (Some i) → cell_at old i ≡ Some c → mid ≡ with_up old 0 (Some t) c.up → new ≡ with_given_back mid i →
     IsMerged new e s (answers.Replaced c.rank)
 replaced old mid new e s t i c m is eq eq' =
-    let link = relinked-written old mid t c.up m.merging.seat.cell m.merging.seat.is eq in
+    let link = relinked-written old mid t c.up m.merging.cell.seat.cell m.merging.cell.seat.is eq in
     let there = relinked-ranks old mid t c.up link i c.rank (record { cell = c; is = is; has = refl }) in
     let drop = dropped-written mid new i there.cell there.is eq' in
     let done = close-both old mid new e s t i c m.merging is link drop in
     record {
       links = done.0;
       noted = noted-fewer mid new (notes-dropped mid new i there.cell there.is eq') s
-          (noted-fewer old mid (notes-relinked old mid t c.up m.merging.seat.cell m.merging.seat.is eq) s m.noted);
+          (noted-fewer old mid (notes-relinked old mid t c.up m.merging.cell.seat.cell m.merging.cell.seat.is eq) s m.noted);
       told = (needed e s m.merging.a m.merging.b (suc m.merging.edge.rank) (apart-merging old e s t (Some i) (Some i) m.merging), done.1);
     }
 
 -- the second chain has ended
 pub finished : (old new : CellPool) (e : ListedEdge) (s : EdgeList) (t : ℕ) (first : Option ℕ) → IsSeam old e s t first None → new ≡ with_up old 0 (Some t) first → IsMerged new e s answers.Joined
 finished old new e s t first m eq =
-    let done = close-single old new e s t first m.merging (relinked-written old new t first m.merging.seat.cell m.merging.seat.is eq) in
+    let done = close-single old new e s t first m.merging (relinked-written old new t first m.merging.cell.seat.cell m.merging.cell.seat.is eq) in
     record {
       links = done.0;
-      noted = noted-fewer old new (notes-relinked old new t first m.merging.seat.cell m.merging.seat.is eq) s m.noted;
+      noted = noted-fewer old new (notes-relinked old new t first m.merging.cell.seat.cell m.merging.cell.seat.is eq) s m.noted;
       told = (needed e s m.merging.a m.merging.b (suc m.merging.edge.rank) (apart-merging old e s t first None m.merging), done.1);
     }
 

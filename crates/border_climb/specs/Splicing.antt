@@ -24,25 +24,38 @@ abbrev pub IsLast : CellPool → EdgeList → ℕ → ℕ → Option ℕ → Typ
 IsLast pool s x r None = ComesAfter (next s x 0) r
 IsLast pool s x r (Some id) = IsLastCell pool s x r id
 
+-- t is the cell of a joining edge f, which is e or above it
+pub record IsJoiningCell (pool : CellPool) (e : ListedEdge) (s : EdgeList) (t : ℕ) (f : ListedEdge) : Type 0 where
+  pub seat : HasRank pool t f.rank
+  pub joins : IsIn f (joins (e ∷ s))
+  pub apart : AreApart (e ∷ s)
+  pub above : e.rank ≤ f.rank
+
+-- a and b are the ends of e, which no edges up to f join without e, and f is at the component of one of them
+pub record AreUnjoinedEnds (e : ListedEdge) (s : EdgeList) (f : ListedEdge) (a b : ℕ) : Type 0 where
+  pub are : AreEnds e a b
+  pub unjoined : joined (below s (suc f.rank)) a b ≡ false
+  pub at_end : (joined (below s (suc f.rank)) f.u a || joined (below s (suc f.rank)) f.u b) ≡ true
+
+-- Below rank r the links are those of the list with e, as are those of the places; above it they are those of the list
+-- without e. No two cells have one rank.
+pub record AreLinkedAround (pool : CellPool) (e : ListedEdge) (s : EdgeList) (r : ℕ) : Type 0 where
+  pub leafs : (x : ℕ) → IsCovered pool x → Points pool (leaf_of pool x) (next (e ∷ s) x 0)
+  pub low : (i : ℕ) (c : Cell) → cell_at pool i ≡ Some c → c.rank < r → IsCellOf pool (e ∷ s) c
+  pub high : (i : ℕ) (c : Cell) → cell_at pool i ≡ Some c → r < c.rank → IsCellOf pool s c
+  pub alone : (i j : ℕ) (b c : Cell) → cell_at pool i ≡ Some b → cell_at pool j ≡ Some c → b.rank ≡ c.rank → i ≡ j
+
 -- Two chains are being merged above e: up to the rank of cell t the links are those of the list with e, above it those
 -- of the list without e. What comes next on the two chains stands at first and second, and t's own link is open.
 pub record IsMerging (pool : CellPool) (e : ListedEdge) (s : EdgeList) (t : ℕ) (first second : Option ℕ) : Type 0 where
   pub edge : ListedEdge
-  pub seat : HasRank pool t edge.rank
-  pub joins : IsIn edge (joins (e ∷ s))
-  pub apart : AreApart (e ∷ s)
-  pub above : e.rank ≤ edge.rank
   pub a : ℕ
   pub b : ℕ
-  pub ends : AreEnds e a b
-  pub unjoined : joined (below s (suc edge.rank)) a b ≡ false
-  pub at_end : (joined (below s (suc edge.rank)) edge.u a || joined (below s (suc edge.rank)) edge.u b) ≡ true
+  pub cell : IsJoiningCell pool e s t edge
+  pub ends : AreUnjoinedEnds e s edge a b
   pub first_link : Points pool first (next s a (suc edge.rank))
   pub second_link : Points pool second (next s b (suc edge.rank))
-  pub leafs : (x : ℕ) → IsCovered pool x → Points pool (leaf_of pool x) (next (e ∷ s) x 0)
-  pub low : (i : ℕ) (c : Cell) → cell_at pool i ≡ Some c → c.rank < edge.rank → IsCellOf pool (e ∷ s) c
-  pub high : (i : ℕ) (c : Cell) → cell_at pool i ≡ Some c → edge.rank < c.rank → IsCellOf pool s c
-  pub alone : (i j : ℕ) (b c : Cell) → cell_at pool i ≡ Some b → cell_at pool j ≡ Some c → b.rank ≡ c.rank → i ≡ j
+  pub others : AreLinkedAround pool e s edge.rank
 
 -- the numbers and the links of places stay
 pub record KeepsLeafs (old new : CellPool) : Type 0 where

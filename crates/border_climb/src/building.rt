@@ -47,8 +47,8 @@ pub fn join(left: Part, right: Part, number: u32, border: &[PlacedEdge]) -> Part
     ensures sums { SumsUp left right result }
     ensures given { result.given ≡ left.given + right.given + length border.now }
 {
-    let _ = left.count();
-    let _ = right.count();
+    left.keeps_its_rules();
+    right.keeps_its_rules();
     let mut part = left.unite(right);
     give_all(&mut part, border);
     part.note(number);

@@ -99,8 +99,8 @@ impl Part {
         ensures lots { result.lots ≡ self.lots ++ other.lots }
         ensures stands { (s r : EdgeList) → AreUnited self other s r → Stands result (s ++ r) }
     {
-        let _ = self.region.count();
-        let _ = other.region.count();
+        self.region.keeps_its_rules();
+        other.region.keeps_its_rules();
         let given = self.given + other.given;
         let lots = put_behind(self.lots, other.lots.as_slice());
         Part {
@@ -116,6 +116,14 @@ impl Part {
         ensures { self.new ≡ record self.old { lots = self.old.lots ++ number ∷ [] } }
     {
         self.lots.push_reserved(number);
+    }
+
+    /// Does nothing. It stands where only this is needed: what the part's region keeps to, `IsPool`.
+    #[inline(always)]
+    pub fn keeps_its_rules(&self)
+        ensures pool { IsPool self.now.region }
+    {
+        self.region.keeps_its_rules();
     }
 
     /// The first place that the part covers.
@@ -152,7 +160,7 @@ impl Part {
         ensures free { result ≡ length self.now.region.free }
         ensures components { (s : EdgeList) → Stands self.now s → result + self.now.region.first ≡ components (self.now.region.first + count self.now.region) s }
     {
-        let _ = self.region.count();
+        self.region.keeps_its_rules();
         self.region.free_count()
     }
 

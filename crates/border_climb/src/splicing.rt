@@ -1,3 +1,13 @@
+// Splicing an edge e into the chains of its ends a and b. The chain of a vertex lists the edges that lead out of its
+// component as that grows with the rank, so two vertices that are joined have one chain from then on. This is why a
+// splice is right:
+// - Where the chains of a and b meet below e, edges of lower rank join the ends: e is redundant, and no chain changes.
+// - Else what comes next below e stays. The last edges below e on either chain are followed by e now, which leads out of
+//   both components and makes them one; so from e on there is one chain, for all vertices of both.
+// - What comes next on it is the lower of what comes next on the two: an edge that leads out of a's component leads out
+//   of the united one too, as long as edges up to it don't join a and b without e.
+// - The first edge on both chains is the one that first joined a and b. It leads out of nothing any more, since e has
+//   joined them before: it is dropped, and above it the chains were one already. Where one chain ends, the other goes on.
 ghost use Rattle.std.specs.Prelude.{◌≡◌, ◌≢◌, ℕ, ◌<◌, ◌^◌, ◌⊎◌, Some, None, IfSome, IsTrue};
 ghost use Rattle.edge_laws.specs.Edges.{ListedEdge, EdgeList};
 ghost use Rattle.edge_laws.specs.Placed.{placed};
@@ -175,7 +185,7 @@ fn open(region: &mut Region, e: PlacedEdge, first: Option<u32>, second: Option<u
     ensures first { result.first ≡ up_of region.old e.a first }
     ensures second { result.second ≡ up_of region.old e.b second }
 {
-    let _ = region.count();
+    region.keeps_its_rules();
     let above_first = up(region, e.a, first);
     let above_second = up(region, e.b, second);
     let cell = Cell {

@@ -115,6 +115,14 @@ impl Order {
         })
     }
 
+    /// Does nothing. It stands where only this is needed: the order is that of a graph.
+    #[inline(always)]
+    pub fn keeps_its_rules(&self)
+        ensures graph { (g : WeightedGraph) × (self.now ≡ order_of g) }
+    {
+        let _ = &self.n;
+    }
+
     /// The number of edges.
     pub fn len(&self) -> u32
         ensures value { result ≡ length self.now.edges }

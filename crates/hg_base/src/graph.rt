@@ -98,6 +98,16 @@ impl Graph {
         }
     }
 
+    /// Does nothing. It stands where only this is needed: the graph keeps to its limits, `IsGraph`.
+    #[inline(always)]
+    pub fn keeps_its_rules(&self)
+        ensures graph { IsGraph self.now }
+        ensures some_vertex { 1 ≤ self.now.n }
+        ensures vertices { self.now.n ≤ 1048576 }
+    {
+        let _ = &self.n;
+    }
+
     /// The number of vertices. The graph keeps to its limits.
     pub fn n(&self) -> u32
         ensures value { result ≡ self.now.n }

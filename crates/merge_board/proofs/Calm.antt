@@ -3,11 +3,11 @@ use Rattle.std.proofs.Common.{◌≡◌, ◌≢◌, ℕ, ◌+◌, ◌<◌, ◌�
 use Rattle.std.specs.Prelude.{Option, Some, None}
 use mathlib.Core.Option.{some, none}
 use mathlib.Core.Option as maybe
-use Rattle.tile_plan.specs.Plan.{TilePlan, IsPlan, tile_count, root, weight}
+use Rattle.tile_plan.specs.Plan.{TilePlan, IsPlan, tile_count, root}
 use Rattle.border_climb.specs.Stands.{PartState}
-use Rattle.merge_board.specs.Board.{Words, Slots, Views, IsPart, IsFormed, IsAtHome, IsSpent, HasArrived, IsInOrder, Shows, word_of, door}
+use Rattle.merge_board.specs.Board.{Words, Slots, Views, IsPart, IsFormed, IsAtHome, IsSpent, HasArrived, IsInOrder, Shows, word_of, door, toll}
 use Rattle.merge_board.specs.declared.view.View.{View}
-use Rattle.merge_board.proofs.Doors.{door_some, some_plan, weight_two}
+use Rattle.merge_board.proofs.Doors.{door_some, some_plan, toll_two}
 use Rattle.merge_board.proofs.Changes.{IsChange, no_hand}
 
 -- what a view without a part has to keep to
@@ -142,7 +142,7 @@ free_slot p workers w slots slots' views order i x formed away slot = record {
 
 -- what is spent isn't at home
 pub spent_away : (p : TilePlan) (w : Words) (i : ℕ) → IsPlan p → IsPart p i → IsSpent p w i → IsAtHome p w i → ⊥
-spent_away p w i plan h spent home = let a : w (door p i) ≡ 3 = spent in let b : w (door p i) ≡ weight p i = home in let c = weight_two p plan i h in omega arith
+spent_away p w i plan h spent home = let a : w (door p i) ≡ 3 = spent in let b : w (door p i) ≡ toll p i = home in let c = toll_two p plan i h in omega arith
 
 -- the slot of a spent part may have anything
 pub spent_slot : (p : TilePlan) (workers : ℕ) (w : Words) (slots slots' : Slots) (views : Views) → IsPlan p → IsInOrder p workers w slots views

@@ -4,12 +4,12 @@ use Rattle.std.proofs.lemmas.Bool.{cases_eq, cases_lt}
 use Rattle.std.specs.Prelude.{Option, Some, slice_index}
 use lib.ListN.{get_elem?}
 use Rattle.atomic_table.specs.Table.{State}
-use Rattle.tile_plan.specs.Plan.{TilePlan, tile_count, part_count, root, weight, left, right}
+use Rattle.tile_plan.specs.Plan.{TilePlan, tile_count, part_count, root, left, right}
 use Rattle.tile_plan.specs.Laws.{HasHalves}
 use Rattle.tile_plan.proofs.Parents.{has_halves}
 use Rattle.border_climb.specs.Stands.{PartState}
 use Rattle.merge_board.specs.Fits.{Fits}
-use Rattle.merge_board.specs.Board.{IsPart, IsFormed, IsAtHome, HasArrived, IsBoard, Shows, Keeps, word_of, door}
+use Rattle.merge_board.specs.Board.{IsPart, IsFormed, IsAtHome, HasArrived, IsBoard, Shows, Keeps, word_of, door, toll_of, toll}
 use Rattle.merge_board.specs.declared.view.View.{View}
 use Rattle.merge_board.proofs.Changes.{one_view, no_hand}
 use Rattle.merge_board.proofs.Doors.{some_plan}
@@ -31,7 +31,7 @@ module _ (p : TilePlan) (workers : ℕ) (s : State (Option PartState) View) (boa
   all_drawn = (board.order.missed id v shows missed).1
 
   is_away : (i : ℕ) → (HasArrived p (slice_index s.words) i) ⊎ (HasArrived p (slice_index s.words) i → ⊥)
-  is_away i = elim (cases_eq (slice_index s.words (door p i)) (weight p i)) [
+  is_away i = elim (cases_eq (slice_index s.words (door p i)) (toll p i)) [
     | inl home ↦ inl (inl home)
     | inr ne ↦ elim (cases_eq (slice_index s.words (door p i)) 3) [
       | inl spent ↦ inl (inr spent)
@@ -39,7 +39,7 @@ module _ (p : TilePlan) (workers : ℕ) (s : State (Option PartState) View) (boa
     ]
   ]
     where
-      neither : slice_index s.words (door p i) ≢ weight p i → slice_index s.words (door p i) ≢ 3 → HasArrived p (slice_index s.words) i → ⊥
+      neither : slice_index s.words (door p i) ≢ toll p i → slice_index s.words (door p i) ≢ 3 → HasArrived p (slice_index s.words) i → ⊥
       neither a b (inl home) = a home
       neither a b (inr spent) = b spent
 
@@ -57,15 +57,15 @@ module _ (p : TilePlan) (workers : ℕ) (s : State (Option PartState) View) (boa
       halves = has_halves p m board.plan low h
 
       at_left : slice_index s.words (door p (left p m)) ≡ slice_index s.words (word_of p m)
-      at_left = ap (λ (x : ℕ). slice_index s.words (word_of p x)) halves.left_parent
+      at_left = ap (λ (x : ℕ). slice_index s.words (word_of p x)) halves.left_half.parent_is
 
       at_right : slice_index s.words (door p (right p m)) ≡ slice_index s.words (word_of p m)
-      at_right = ap (λ (x : ℕ). slice_index s.words (word_of p x)) halves.right_parent
+      at_right = ap (λ (x : ℕ). slice_index s.words (word_of p x)) halves.right_half.parent_is
 
       by : HasArrived p (slice_index s.words) (left p m) → HasArrived p (slice_index s.words) (right p m) → slice_index s.words (word_of p m) ≡ 3
       by (inr spent) z = sym at_left ∙ spent
       by (inl home) (inr spent) = sym at_right ∙ spent
-      by (inl home) (inl home') = absurd (let x : slice_index s.words (word_of p m) ≡ 1 = sym at_left ∙ home ∙ halves.left_weight in let y : slice_index s.words (word_of p m) ≡ 2 = sym at_right ∙ home' ∙ halves.right_weight in omega arith)
+      by (inl home) (inl home') = absurd (let x : slice_index s.words (word_of p m) ≡ 1 = sym at_left ∙ home ∙ ap toll_of halves.left_half.side_is in let y : slice_index s.words (word_of p m) ≡ 2 = sym at_right ∙ home' ∙ ap toll_of halves.right_half.side_is in omega arith)
 
   -- each part has arrived, by the parts below it
   up_to : (n i : ℕ) → i < n → IsPart p i → HasArrived p (slice_index s.words) i
@@ -79,16 +79,16 @@ module _ (p : TilePlan) (workers : ℕ) (s : State (Option PartState) View) (boa
       halves merge = has_halves p i board.plan merge h
 
       low_left : tile_count p ≤ i → left p i < n
-      low_left merge = let a = (halves merge).left_below in omega arith
+      low_left merge = let a = (halves merge).left_half.below in omega arith
 
       low_right : tile_count p ≤ i → right p i < n
-      low_right merge = let a = (halves merge).right_below in omega arith
+      low_right merge = let a = (halves merge).right_half.below in omega arith
 
       part_left : tile_count p ≤ i → IsPart p (left p i)
-      part_left merge = let a = (halves merge).left_below in omega arith
+      part_left merge = let a = (halves merge).left_half.below in omega arith
 
       part_right : tile_count p ≤ i → IsPart p (right p i)
-      part_right merge = let a = (halves merge).right_below in omega arith
+      part_right merge = let a = (halves merge).right_half.below in omega arith
 
   root_part : IsPart p (root p)
   root_part = let t = some_plan p board.plan in omega arith

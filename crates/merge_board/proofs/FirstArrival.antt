@@ -3,19 +3,19 @@ use Rattle.std.proofs.Common.{◌≡◌, ◌≢◌, ℕ, ◌<◌, ◌≤◌, ◌
 use Rattle.std.proofs.lemmas.Bool.{cases_eq}
 use Rattle.std.specs.Prelude.{Some, None}
 use mathlib.Core.Option.{some}
-use Rattle.tile_plan.specs.Plan.{TilePlan, IsPlan, tile_count, root, weight}
-use Rattle.tile_plan.proofs.Parents.{has_parent}
+use Rattle.tile_plan.specs.Plan.{TilePlan, IsPlan, tile_count, root}
 use Rattle.border_climb.specs.Stands.{PartState}
 use Rattle.merge_board.specs.Fits.{Fits}
-use Rattle.merge_board.specs.Board.{Words, Slots, Views, IsPart, IsFormed, IsAtHome, HasArrived, IsInHand, IsInOrder, Shows, Keeps, word_of, door}
+use Rattle.merge_board.specs.Board.{Words, Slots, Views, IsPart, IsFormed, IsAtHome, HasArrived, IsInHand, IsInOrder, Shows, Keeps, word_of, door, toll}
 use Rattle.merge_board.specs.Seats.{idle}
 use Rattle.merge_board.specs.declared.view.View.{View}
-use Rattle.merge_board.proofs.Doors.{door_some, weight_some, weight_two, door_of_root, one_part}
+use Rattle.merge_board.proofs.Doors.{door_some, toll_some, toll_two, door_of_root, one_part}
+use Rattle.merge_board.proofs.Places.{root_toll}
 use Rattle.merge_board.proofs.Changes.{IsChange, shown, still_shown, one_view, no_hand, one_hand}
 
 module _ (p : TilePlan) (workers : ℕ) (w w' : Words) (slots slots' : Slots) (views views' : Views) (plan : IsPlan p) (order : IsInOrder p workers w slots views)
     (id i n : ℕ) (v : View) (y : PartState) (shows : Shows views id v) (hand : v.hand ≡ Some i) (zero_word : w (door p i) ≡ 0)
-    (words : IsChange w w' (door p i) (weight p i)) (slot : IsChange slots slots' i (some (some (Some y)))) (view : IsChange views views' id (some (idle v n))) where
+    (words : IsChange w w' (door p i) (toll p i)) (slot : IsChange slots slots' i (some (some (Some y)))) (view : IsChange views views' id (some (idle v n))) where
   is_part : IsPart p i
   is_part = (order.in_hand id i v shows hand).0
 
@@ -25,10 +25,10 @@ module _ (p : TilePlan) (workers : ℕ) (w w' : Words) (slots slots' : Slots) (v
   draws : w' 0 ≡ w 0
   draws = words.others 0 (let s = door_some p plan i is_part in λ e. omega arith)
 
-  two : weight p i ≤ 2
-  two = weight_two p plan i is_part
+  two : toll p i ≤ 2
+  two = toll_two p plan i is_part
 
-  at_door : (j : ℕ) → door p j ≡ door p i → w' (door p j) ≡ weight p i
+  at_door : (j : ℕ) → door p j ≡ door p i → w' (door p j) ≡ toll p i
   at_door j e = ap w' e ∙ words.here
 
   was_zero : (j : ℕ) → door p j ≡ door p i → w (door p j) ≡ 0
@@ -37,7 +37,7 @@ module _ (p : TilePlan) (workers : ℕ) (w w' : Words) (slots slots' : Slots) (v
   -- who has arrived in this step is the part
   newly : (j : ℕ) → IsPart p j → door p j ≡ door p i → HasArrived p w' j → i ≡ j
   newly j h e (inl home) = one_part p plan i j is_part h (sym e) (sym (at_door j e) ∙ home)
-  newly j h e (inr spent) = absurd (let a : weight p i ≡ 3 = sym (at_door j e) ∙ spent in let t = two in omega arith)
+  newly j h e (inr spent) = absurd (let a : toll p i ≡ 3 = sym (at_door j e) ∙ spent in let t = two in omega arith)
 
   formed_on : (j : ℕ) → IsFormed p w j → IsFormed p w' j
   formed_on j (inl t) = inl (t.0, (let d = draws in let b = t.1 in omega arith))
@@ -49,7 +49,7 @@ module _ (p : TilePlan) (workers : ℕ) (w w' : Words) (slots slots' : Slots) (v
   formed_back : (j : ℕ) → IsFormed p w' j → IsFormed p w j
   formed_back j (inl t) = inl (t.0, (let d = draws in let b = t.1 in omega arith))
   formed_back j (inr m) = elim (cases_eq (word_of p j) (door p i)) [
-    | inl same ↦ absurd (let a : 3 ≡ weight p i = sym m.1 ∙ ap w' same ∙ words.here in let t = two in omega arith)
+    | inl same ↦ absurd (let a : 3 ≡ toll p i = sym m.1 ∙ ap w' same ∙ words.here in let t = two in omega arith)
     | inr ne ↦ inr (m.0, sym (words.others (word_of p j) ne) ∙ m.1)
   ]
 
@@ -67,7 +67,7 @@ module _ (p : TilePlan) (workers : ℕ) (w w' : Words) (slots slots' : Slots) (v
   ]
     where
       none_yet : door p j ≡ door p i → HasArrived p w j → ⊥
-      none_yet e (inl home) = let a = was_zero j e in let b : w (door p j) ≡ weight p j = home in let s = weight_some p plan j h in omega arith
+      none_yet e (inl home) = let a = was_zero j e in let b : w (door p j) ≡ toll p j = home in let s = toll_some p plan j h in omega arith
       none_yet e (inr spent) = let a = was_zero j e in let b : w (door p j) ≡ 3 = spent in omega arith
 
       moved : door p j ≢ door p i → HasArrived p w j → HasArrived p w' j
@@ -98,7 +98,7 @@ module _ (p : TilePlan) (workers : ℕ) (w w' : Words) (slots slots' : Slots) (v
 
   root_range : w' (door p (root p)) ≤ 1
   root_range = elim (cases_eq (door p (root p)) (door p i)) [
-    | inl same ↦ (let a = at_door (root p) same in let b = (has_parent p i plan is_part).root_weight (door_of_root p plan i is_part same) in omega arith)
+    | inl same ↦ (let a = at_door (root p) same in let b = root_toll p i plan is_part (door_of_root p plan i is_part same) in omega arith)
     | inr ne ↦ (let a = same_at (root p) ne in let b = order.root_range in omega arith)
   ]
 

@@ -5,22 +5,22 @@ use Rattle.std.proofs.lemmas.Option.{same_Some}
 use Rattle.std.specs.Prelude.{Option, Some, None}
 use Rattle.atomic_table.specs.Table.{rest, turned, Allows}
 use Rattle.atomic_table.specs.declared.shared.Seat.{Seat}
-use Rattle.tile_plan.specs.Plan.{TilePlan, IsPlan, tile_count, part_count, root, parent, weight, sibling, side_of, left, right}
+use Rattle.tile_plan.specs.Plan.{TilePlan, IsPlan, tile_count, part_count, root, parent, sibling, side, left, right}
 use Rattle.tile_plan.specs.declared.site.Side.TheVariants as sides
 use Rattle.tile_plan.proofs.Parents.{has_parent}
 use Rattle.border_climb.specs.Stands.{PartState}
 use Rattle.merge_board.specs.Fits.{Fits}
-use Rattle.merge_board.specs.Board.{IsBoard, door}
+use Rattle.merge_board.specs.Board.{IsBoard, door, toll}
 use Rattle.merge_board.specs.Seats.{with_merge}
-use Rattle.merge_board.specs.Steps.{Hold, Arrives, ArrivesWith, AreTurns, AreBelow, AreHalves}
+use Rattle.merge_board.specs.Steps.{Hold, Arrives, ArrivesWith, AreTurns, AreBelow, AreBothHalves}
 use Rattle.merge_board.specs.SeatFields.{IsSeat}
 use Rattle.merge_board.specs.declared.view.View.{View}
 use Rattle.merge_board.specs.declared.seat.Seat.TheInside.{Inside}
-use Rattle.merge_board.proofs.Doors.{some_plan, door_inner, door_root, parent_inner, parent_merge, sibling_part, sibling_weight, weight_some, weight_two}
+use Rattle.merge_board.proofs.Doors.{some_plan, door_inner, door_root, parent_inner, parent_merge, sibling_part, sibling_toll}
 use Rattle.merge_board.proofs.Arriving.{may_arrive}
 use Rattle.merge_board.proofs.Changes.{no_hand}
 use Rattle.merge_board.proofs.HeldSlots.{arrives_alone}
-use Rattle.merge_board.proofs.Places.{left_weight, right_weight, left_sibling, right_sibling}
+use Rattle.merge_board.proofs.Places.{left_own, right_own, left_sibling, right_sibling}
 
 abbrev Held : Type 0
 Held = List (ℕ × Option PartState)
@@ -39,23 +39,23 @@ unfolding first_has
 same_first held a b k l x y z e f g = same_Some z y (sym g ∙ ap first_has (sym e ∙ f))
 
 -- which half is which
-pub halves_left : (p : TilePlan) (i m : ℕ) (own other : PartState) → IsPlan p → i < part_count p → i ≢ root p → side_of (weight p i) ≡ sides.Left → m ≡ parent p i → Fits p i own → Fits p (sibling p i) other
+pub halves_left : (p : TilePlan) (i m : ℕ) (own other : PartState) → IsPlan p → i < part_count p → i ≢ root p → side p i ≡ sides.Left → m ≡ parent p i → Fits p i own → Fits p (sibling p i) other
     → (m ≡ parent p i) × (Fits p (left p m) own × Fits p (right p m) other)
-halves_left p i m own other h l inner side e a b = (
+halves_left p i m own other h l inner on e a b = (
   e,
   (
-    subst (λ (k : ℕ). Fits p k own) (sym ((has_parent p i h l).left_half inner (sym (left_weight (weight p i) (weight_some p h i l) (weight_two p h i l) side))) ∙ ap (λ (k : ℕ). left p k) (sym e)) a,
-    subst (λ (k : ℕ). Fits p k other) (sym (left_sibling p i h l side) ∙ ap (λ (k : ℕ). right p k) (sym e)) b,
+    subst (λ (k : ℕ). Fits p k own) (left_own p i h l inner on ∙ ap (λ (k : ℕ). left p k) (sym e)) a,
+    subst (λ (k : ℕ). Fits p k other) (sym (left_sibling p i on) ∙ ap (λ (k : ℕ). right p k) (sym e)) b,
   ),
 )
 
-pub halves_right : (p : TilePlan) (i m : ℕ) (own other : PartState) → IsPlan p → i < part_count p → i ≢ root p → side_of (weight p i) ≡ sides.Right → m ≡ parent p i → Fits p i own → Fits p (sibling p i) other
+pub halves_right : (p : TilePlan) (i m : ℕ) (own other : PartState) → IsPlan p → i < part_count p → i ≢ root p → side p i ≡ sides.Right → m ≡ parent p i → Fits p i own → Fits p (sibling p i) other
     → (m ≡ parent p i) × (Fits p (left p m) other × Fits p (right p m) own)
-halves_right p i m own other h l inner side e a b = (
+halves_right p i m own other h l inner on e a b = (
   e,
   (
-    subst (λ (k : ℕ). Fits p k other) (sym (right_sibling p i h l side) ∙ ap (λ (k : ℕ). left p k) (sym e)) b,
-    subst (λ (k : ℕ). Fits p k own) (sym ((has_parent p i h l).right_half inner (sym (right_weight (weight p i) (weight_some p h i l) (weight_two p h i l) side))) ∙ ap (λ (k : ℕ). right p k) (sym e)) a,
+    subst (λ (k : ℕ). Fits p k other) (sym (right_sibling p i on) ∙ ap (λ (k : ℕ). left p k) (sym e)) b,
+    subst (λ (k : ℕ). Fits p k own) (right_own p i h l inner on ∙ ap (λ (k : ℕ). right p k) (sym e)) a,
   ),
 )
 
@@ -70,7 +70,7 @@ turned_in : (p : TilePlan) (i : ℕ) (me me' : Hold) (y : Option PartState) (t :
 turned_in p i me me' y t e = e ∙ ap (λ (l : List (ℕ × Option PartState)). (me.0, turned ((i, y) ∷ rest l))) t.1.1.0
 
 pub may_put_down : (p : TilePlan) (workers id slots i : ℕ) (me me' : Hold) (word k : ℕ) (y : PartState) → me.0.hand ≡ Some i → me.0.plan ≡ p → Fits p i y → AreTurns p (Some i) me.1
-    → me' ≡ (me.0, turned ((i, Some y) ∷ rest me.1)) → word ≡ door p i → k ≡ weight p i → Allows (IsBoard p workers) slots id me' word (λ z. (z + k) % 2 ^ 64) (λ n after. Arrives me' n after)
+    → me' ≡ (me.0, turned ((i, Some y) ∷ rest me.1)) → word ≡ door p i → k ≡ toll p i → Allows (IsBoard p workers) slots id me' word (λ z. (z + k) % 2 ^ 64) (λ n after. Arrives me' n after)
 may_put_down p workers id slots i me me' word k y hand known fits t e at by =
     subst (λ (m : Hold). Allows (IsBoard p workers) slots id m word (λ z. (z + k) % 2 ^ 64) (λ n after. Arrives m n after)) (sym (turned_in p i me me' (Some y) t e))
     (subst (λ (w : ℕ). Allows (IsBoard p workers) slots id (me.0, t.1.0 ++ (i, Some y) ∷ []) w (λ z. (z + k) % 2 ^ 64) (λ n after. Arrives (me.0, t.1.0 ++ (i, Some y) ∷ []) n after)) (sym at)
@@ -111,11 +111,11 @@ merge_seat s t i n m y after ok plan hand inner found_some a above slots = recor
     me_is : t.me ≡ (with_merge s.token.me.0 (parent s.token.me.0.plan i) n, (parent s.token.me.0.plan i, None) ∷ (sibling s.token.me.0.plan i, None) ∷ (i, None) ∷ [])
     me_is = slots ∙ ap (λ (v : View). (v, (parent s.token.me.0.plan i, None) ∷ (sibling s.token.me.0.plan i, None) ∷ (i, None) ∷ [])) after_view
 
-    halves : AreHalves s.token.me.0.plan (parent s.token.me.0.plan i) (sibling s.token.me.0.plan i) i
+    halves : AreBothHalves s.token.me.0.plan (parent s.token.me.0.plan i) (sibling s.token.me.0.plan i) i
     halves = record {
       first = sibling_part s.token.me.0.plan plan i is_part inner;
       second = is_part;
-      first_parent = (has_parent s.token.me.0.plan i plan is_part).sibling_parent inner;
+      first_parent = ((has_parent s.token.me.0.plan i plan is_part).inner inner).sibling_parent;
       second_parent = refl;
-      weights = sibling_weight s.token.me.0.plan plan i is_part inner;
+      tolls = sibling_toll s.token.me.0.plan plan i is_part inner;
     }

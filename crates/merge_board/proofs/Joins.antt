@@ -129,16 +129,16 @@ module _ (p : TilePlan) (m : ℕ) (a b : PartState) (plan : IsPlan p) (low : til
       cross e (inr t) = inr (covers p (left p m) a e.v fa.shape t.0, covers p (right p m) b e.u fb.shape t.1)
 
   left_is : IsSomewhere p (left p m)
-  left_is = is_somewhere p (left p m) plan (let b = halves.left_below in omega arith)
+  left_is = is_somewhere p (left p m) plan (let b = halves.left_half.below in omega arith)
 
   right_is : IsSomewhere p (right p m)
-  right_is = is_somewhere p (right p m) plan (let b = halves.right_below in omega arith)
+  right_is = is_somewhere p (right p m) plan (let b = halves.right_half.below in omega arith)
 
   merge_is : IsSomewhere p m
   merge_is = is_somewhere p m plan high
 
   both_places : count a.region + count b.region ≡ end_place p m - first_place p m
-  both_places = let ca = fa.shape.places in let cb = fb.shape.places in let l = left_is.some_place in let r = right_is.some_place in let x = halves.left_place in let y = halves.right_place in let z = halves.right_end in omega (arith, ca, cb, l, r, x, y, z)
+  both_places = let ca = fa.shape.places in let cb = fb.shape.places in let l = left_is.some_place in let r = right_is.some_place in let x = halves.places.left_first in let y = halves.places.right_first in let z = halves.places.right_end in omega (arith, ca, cb, l, r, x, y, z)
 
   joined_places : (made : PartState) → count made.region ≡ count a.region + count b.region → count made.region ≡ end_place p m - first_place p m
   joined_places made e = e ∙ both_places
@@ -146,23 +146,23 @@ module _ (p : TilePlan) (m : ℕ) (a b : PartState) (plan : IsPlan p) (low : til
   -- the second half begins where the first ends, and the room of the first holds both
   pub halves_next : IsNextTo a.region b.region
   halves_next = record {
-    next = (let x = fb.shape.first in let y = halves.right_place in let f = fa.shape.first in let g = fa.shape.places in let l = left_is.some_place in omega (arith, x, y, f, g, l));
+    next = (let x = fb.shape.first in let y = halves.places.right_first in let f = fa.shape.first in let g = fa.shape.places in let l = left_is.some_place in omega (arith, x, y, f, g, l));
     places = subst (λ (r : ℕ). count a.region + count b.region ≤ r) (sym (ap (λ (r : Room). r.places) room_is)) (let e = both_places in let l = start-rises p (first_tile p m + tiles_of p m) (first_tile p m + room_tiles p (first_tile p m)) (let q = merge_is.room in omega arith) in omega (arith, e, l));
-    chunks = subst (λ (r : ℕ). a.region.chunks + b.region.chunks ≤ r) (sym (ap (λ (r : Room). r.chunks) room_is)) (let ca = fa.shape.chunks in let cb = fb.shape.chunks in let t = halves.tiles in let q = merge_is.room in omega (arith, ca, cb, t, q));
+    chunks = subst (λ (r : ℕ). a.region.chunks + b.region.chunks ≤ r) (sym (ap (λ (r : Room). r.chunks) room_is)) (let ca = fa.shape.chunks in let cb = fb.shape.chunks in let t = halves.tiles.sum in let q = merge_is.room in omega (arith, ca, cb, t, q));
   }
     where
       room_is : a.region.room ≡ record { places = start p (first_tile p m + room_tiles p (first_tile p m)) - start p (first_tile p m); chunks = room_tiles p (first_tile p m) }
-      room_is = fa.shape.room ∙ ap (λ (t : ℕ). record { places = start p (t + room_tiles p t) - start p t; chunks = room_tiles p t }) halves.left_first
+      room_is = fa.shape.room ∙ ap (λ (t : ℕ). record { places = start p (t + room_tiles p t) - start p t; chunks = room_tiles p t }) halves.tiles.left_first
 
   -- what was joined fits the merge
   pub joined_fits : (made : PartState) → Stands made ((edges_at p (left p m) ++ edges_at p (right p m)) ++ lot_edges p m) → made.lots ≡ (a.lots ++ b.lots) ++ m ∷ [] → made.region.first ≡ a.region.first
       → count made.region ≡ count a.region + count b.region → made.region.chunks ≡ a.region.chunks + b.region.chunks → made.region.room ≡ a.region.room → Fits p m made
   joined_fits made stands lots first places chunks room = fits p m made (record {
     shape = record {
-      first = first ∙ fa.shape.first ∙ halves.left_place;
+      first = first ∙ fa.shape.first ∙ halves.places.left_first;
       places = joined_places made places;
-      chunks = (let ca = fa.shape.chunks in let cb = fb.shape.chunks in let t = halves.tiles in omega (arith, ca, cb, t, chunks));
-      room = room ∙ fa.shape.room ∙ ap (λ (t : ℕ). record { places = start p (t + room_tiles p t) - start p t; chunks = room_tiles p t }) halves.left_first;
+      chunks = (let ca = fa.shape.chunks in let cb = fb.shape.chunks in let t = halves.tiles.sum in omega (arith, ca, cb, t, chunks));
+      room = room ∙ fa.shape.room ∙ ap (λ (t : ℕ). record { places = start p (t + room_tiles p t) - start p t; chunks = room_tiles p t }) halves.tiles.left_first;
     };
     lots = lots ∙ (λ k. (fa.lots k ++ fb.lots k) ++ m ∷ []) ∙ sym joins.parts;
     stands = subst (λ (s : EdgeList). Stands made s) (sym joins.edges) stands;

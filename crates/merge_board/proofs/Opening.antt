@@ -7,14 +7,14 @@ use mathlib.Core.Option.{some, some-injective, some-ne-none}
 use mathlib.Core.Option as maybe
 use lib.ListN.{get_elem?}
 use Rattle.atomic_table.specs.Table.{opening}
-use Rattle.tile_plan.specs.Plan.{TilePlan, IsPlan, tile_count, root, weight}
+use Rattle.tile_plan.specs.Plan.{TilePlan, IsPlan, tile_count, root}
 use Rattle.border_climb.specs.Stands.{PartState}
-use Rattle.merge_board.specs.Board.{Shows, IsPart, IsFormed, HasArrived, IsInOrder, IsBoard, door, word_of}
+use Rattle.merge_board.specs.Board.{Shows, IsPart, IsFormed, HasArrived, IsInOrder, IsBoard, door, word_of, toll}
 use Rattle.merge_board.specs.Opening.{AreOpened}
 use Rattle.merge_board.specs.Seats.{first_view}
 use Rattle.merge_board.specs.declared.view.View.{View}
 use Rattle.merge_board.proofs.Changes.{no_hand}
-use Rattle.merge_board.proofs.Doors.{weight_some}
+use Rattle.merge_board.proofs.Doors.{toll_some}
 
 -- each word is 0
 zeros : (n i : ℕ) → slice_index (replicate n 0) i ≡ 0
@@ -41,7 +41,7 @@ module _ (p : TilePlan) (workers : ℕ) (slots : List (Option PartState)) (plan 
   zero_at i = zeros (tile_count p + 1) i
 
   none_arrived : (i : ℕ) → IsPart p i → HasArrived p w i → ⊥
-  none_arrived i h (inl home) = let z = zero_at (door p i) in let s = weight_some p plan i h in let e : w (door p i) ≡ weight p i = home in omega arith
+  none_arrived i h (inl home) = let z = zero_at (door p i) in let s = toll_some p plan i h in let e : w (door p i) ≡ toll p i = home in omega arith
   none_arrived i h (inr spent) = let z = zero_at (door p i) in let e : w (door p i) ≡ 3 = spent in omega arith
 
   none_formed : (i : ℕ) → IsFormed p w i → ⊥

@@ -3,14 +3,14 @@ use Rattle.std.proofs.Common.{◌≡◌, ◌≢◌, ℕ, ◌+◌, ◌<◌, ◌�
 use Rattle.std.proofs.lemmas.Bool.{cases_eq}
 use Rattle.std.specs.Prelude.{Some}
 use mathlib.Core.Option.{some, none}
-use Rattle.tile_plan.specs.Plan.{TilePlan, IsPlan, tile_count, root, parent, weight, sibling}
-use Rattle.tile_plan.proofs.Parents.{has_parent}
+use Rattle.tile_plan.specs.Plan.{TilePlan, IsPlan, tile_count, root, parent, sibling}
 use Rattle.border_climb.specs.Stands.{PartState}
 use Rattle.merge_board.specs.Fits.{Fits}
-use Rattle.merge_board.specs.Board.{Words, Slots, Views, IsPart, IsFormed, IsAtHome, HasArrived, IsInHand, IsInOrder, Shows, Keeps, IsEmpty, word_of, door}
+use Rattle.merge_board.specs.Board.{Words, Slots, Views, IsPart, IsFormed, IsAtHome, HasArrived, IsInHand, IsInOrder, Shows, Keeps, IsEmpty, word_of, door, toll}
 use Rattle.merge_board.specs.Seats.{with_merge}
 use Rattle.merge_board.specs.declared.view.View.{View}
-use Rattle.merge_board.proofs.Doors.{door_some, weight_some, weight_two, door_of_root, one_word, same_door, parent_merge, parent_later, parent_inner, sibling_part, sibling_door, sibling_weight}
+use Rattle.merge_board.proofs.Doors.{door_some, toll_some, toll_two, door_of_root, one_word, same_door, parent_merge, parent_later, parent_inner, sibling_part, sibling_door, sibling_toll}
+use Rattle.merge_board.proofs.Places.{root_toll}
 use Rattle.merge_board.proofs.Changes.{IsChange, shown, still_shown, one_view, no_hand, one_hand}
 
 module _ (p : TilePlan) (workers : ℕ) (w : Words) (slots : Slots) (views : Views) (plan : IsPlan p) (order : IsInOrder p workers w slots views)
@@ -24,9 +24,9 @@ module _ (p : TilePlan) (workers : ℕ) (w : Words) (slots : Slots) (views : Vie
   -- the root's word is 0 where the root arrives
   pub root_zero : i ≡ root p → w (door p i) ≡ 0
   root_zero r = let le : w (door p i) ≤ 1 = subst (λ (k : ℕ). w (door p k) ≤ 1) (sym r) order.root_range in
-      let one = (has_parent p i plan is_part).root_weight r in zero_of le one (λ e. in_hand.1 (inl e))
+      let one = sym (root_toll p i plan is_part r) in zero_of le one (λ e. in_hand.1 (inl e))
     where
-      zero_of : w (door p i) ≤ 1 → weight p i ≡ 1 → (w (door p i) ≡ weight p i → ⊥) → w (door p i) ≡ 0
+      zero_of : w (door p i) ≤ 1 → toll p i ≡ 1 → (w (door p i) ≡ toll p i → ⊥) → w (door p i) ≡ 0
       zero_of le one ne = elim (cases_eq (w (door p i)) 1) [
         | inl same ↦ absurd (ne (same ∙ sym one))
         | inr other ↦ omega arith
@@ -36,8 +36,8 @@ module _ (p : TilePlan) (workers : ℕ) (w : Words) (slots : Slots) (views : Vie
   pub sibling_home : i ≢ root p → w (door p i) ≢ 0 → IsAtHome p w (sibling p i)
   sibling_home inner found_some = ap w (sibling_door p plan i is_part inner) ∙ weigh (order.range i is_part) (λ e. in_hand.1 (inl e)) (λ e. in_hand.1 (inr e))
     where
-      weigh : w (door p i) ≤ 3 → w (door p i) ≢ weight p i → w (door p i) ≢ 3 → w (door p i) ≡ weight p (sibling p i)
-      weigh le a b = let s = sibling_weight p plan i is_part inner in let t = weight_some p plan i is_part in let u = weight_two p plan i is_part in omega arith
+      weigh : w (door p i) ≤ 3 → w (door p i) ≢ toll p i → w (door p i) ≢ 3 → w (door p i) ≡ toll p (sibling p i)
+      weigh le a b = let s = sibling_toll p plan i is_part inner in let t = toll_some p plan i is_part in let u = toll_two p plan i is_part in omega arith
 
   -- and the merge above is not formed
   pub parent_unformed : i ≢ root p → w (door p i) ≢ 3
@@ -78,23 +78,23 @@ module _ (p : TilePlan) (workers : ℕ) (w w' : Words) (slots slots' slots'' : S
   halves_formed : (j : ℕ) → IsPart p j → door p j ≡ door p i → IsFormed p w j
   halves_formed j h e = by (same_door p plan i j part_i h (sym e))
     where
-      by : (i ≡ j) ⊎ (weight p i + weight p j ≡ 3) → IsFormed p w j
+      by : (i ≡ j) ⊎ (toll p i + toll p j ≡ 3) → IsFormed p w j
       by (inl same) = subst (λ (x : ℕ). IsFormed p w x) same hand_i.0
-      by (inr three) = order.formed j h (inl (ap w e ∙ sym (ap w (sibling_door p plan i part_i inner)) ∙ home_sibling ∙ weights))
+      by (inr three) = order.formed j h (inl (ap w e ∙ sym (ap w (sibling_door p plan i part_i inner)) ∙ home_sibling ∙ tolls))
         where
-          weights : weight p (sibling p i) ≡ weight p j
-          weights = let s = sibling_weight p plan i part_i inner in omega arith
+          tolls : toll p (sibling p i) ≡ toll p j
+          tolls = let s = sibling_toll p plan i part_i inner in omega arith
 
   -- the other half had arrived
   other_arrived : (j : ℕ) → IsPart p j → door p j ≡ door p i → i ≢ j → HasArrived p w j
   other_arrived j h e ne = by (same_door p plan i j part_i h (sym e))
     where
-      by : (i ≡ j) ⊎ (weight p i + weight p j ≡ 3) → HasArrived p w j
+      by : (i ≡ j) ⊎ (toll p i + toll p j ≡ 3) → HasArrived p w j
       by (inl same) = absurd (ne same)
-      by (inr three) = inl (ap w e ∙ sym (ap w (sibling_door p plan i part_i inner)) ∙ home_sibling ∙ weights)
+      by (inr three) = inl (ap w e ∙ sym (ap w (sibling_door p plan i part_i inner)) ∙ home_sibling ∙ tolls)
         where
-          weights : weight p (sibling p i) ≡ weight p j
-          weights = let s = sibling_weight p plan i part_i inner in omega arith
+          tolls : toll p (sibling p i) ≡ toll p j
+          tolls = let s = sibling_toll p plan i part_i inner in omega arith
 
   parent_at : IsPart p (parent p i)
   parent_at = parent_inner p plan i part_i inner
@@ -268,7 +268,7 @@ module _ (p : TilePlan) (workers : ℕ) (w w' : Words) (slots slots' slots'' : S
       merge_formed m low (inr f) = f.1
 
       at_home : (j : ℕ) → IsPart p j → IsAtHome p w' j → (door p j ≡ door p i) ⊎ (door p j ≢ door p i) → (part : PartState) × (Keeps slots'' j part × Fits p j part)
-      at_home j h home (inl same) = absurd (let a = at_door j same in let b : w' (door p j) ≡ weight p j = home in let c = weight_two p plan j h in omega arith)
+      at_home j h home (inl same) = absurd (let a = at_door j same in let b : w' (door p j) ≡ toll p j = home in let c = toll_two p plan j h in omega arith)
       at_home j h home (inr diff) = (was.0, (kept j not_sib not_parent ∙ was.1.0, was.1.1))
         where
           was_home : IsAtHome p w j

@@ -5,14 +5,14 @@ use Rattle.std.specs.Prelude.{Option, Some, slice_index}
 use lib.ListN.{get_elem?}
 use mathlib.Core.Option.{some}
 use Rattle.atomic_table.specs.Table.{State}
-use Rattle.tile_plan.specs.Plan.{TilePlan, tile_count, weight}
+use Rattle.tile_plan.specs.Plan.{TilePlan, tile_count}
 use Rattle.border_climb.specs.Stands.{PartState}
-use Rattle.merge_board.specs.Board.{IsBoard, IsPart, IsFormed, IsUnborn, IsInHand, HasArrived, IsStatus, HasOneState, Unborn, InHand, AtHome, Spent, door, word_of}
+use Rattle.merge_board.specs.Board.{IsBoard, IsPart, IsFormed, IsUnborn, IsInHand, HasArrived, IsStatus, HasOneState, Unborn, InHand, AtHome, Spent, door, word_of, toll}
 use Rattle.merge_board.specs.declared.view.View.{View}
 use Rattle.merge_board.proofs.Calm.{spent_away}
 
 pub part_status : (p : TilePlan) (workers i : ℕ) (s : State (Option PartState) View) → IsBoard p workers s → IsPart p i → IsStatus p s i
-part_status p workers i s b h = elim (cases_eq (slice_index s.words (door p i)) (weight p i)) [
+part_status p workers i s b h = elim (cases_eq (slice_index s.words (door p i)) (toll p i)) [
   | inl home ↦ (let was = b.order.homes i h home in AtHome home was.0 was.1.0 was.1.1)
   | inr not_home ↦ elim (cases_eq (slice_index s.words (door p i)) 3) [
     | inl spent ↦ Spent spent
@@ -20,7 +20,7 @@ part_status p workers i s b h = elim (cases_eq (slice_index s.words (door p i)) 
   ]
 ]
   where
-    away : slice_index s.words (door p i) ≢ weight p i → slice_index s.words (door p i) ≢ 3 → HasArrived p (slice_index s.words) i → ⊥
+    away : slice_index s.words (door p i) ≢ toll p i → slice_index s.words (door p i) ≢ 3 → HasArrived p (slice_index s.words) i → ⊥
     away a c (inl home) = a home
     away a c (inr spent) = c spent
 

@@ -6,7 +6,9 @@ use mathlib.Core.Option as maybe
 use lib.ListN.{get_elem?}
 use Rattle.atomic_table.specs.Table.{State}
 use Rattle.border_climb.specs.Stands.{PartState}
-use Rattle.tile_plan.specs.Plan.{TilePlan, IsPlan, tile_count, part_count, root, parent, weight}
+use Rattle.tile_plan.specs.Plan.{TilePlan, IsPlan, tile_count, part_count, root, parent, side}
+use Rattle.tile_plan.specs.declared.site.Side.{Side}
+use Rattle.tile_plan.specs.declared.site.Side.TheVariants as sides
 use Rattle.merge_board.specs.Fits.{Fits, Opened}
 use Rattle.merge_board.specs.declared.view.View.{View}
 
@@ -24,9 +26,19 @@ Views = ℕ → maybe.Option View
 abbrev pub word_of : TilePlan → ℕ → ℕ
 word_of p m = m + 1 - tile_count p
 
--- the word to which a part's arrival adds its weight: that of the merge above it
+-- the word to which a part's arrival adds its toll: that of the merge above it
 abbrev pub door : TilePlan → ℕ → ℕ
 door p i = word_of p (parent p i)
+
+-- what the arrival of a half adds: 1 for a left half, 2 for a right one, so that the word of a merge tells which of its
+-- halves have arrived
+abbrev pub toll_of : Side → ℕ
+toll_of sides.Left = 1
+toll_of sides.Right = 2
+
+-- what a part's arrival adds to the word of its door
+abbrev pub toll : TilePlan → ℕ → ℕ
+toll p i = toll_of (side p i)
 
 -- the part is one of the plan
 abbrev pub IsPart : TilePlan → ℕ → Type 0
@@ -38,7 +50,7 @@ IsFormed p w i = ((i < tile_count p) × (i < w 0)) ⊎ ((tile_count p ≤ i) × 
 
 -- the part has arrived and its sibling has not, or it is the root and has arrived
 abbrev pub IsAtHome : TilePlan → Words → ℕ → Type 0
-IsAtHome p w i = w (door p i) ≡ weight p i
+IsAtHome p w i = w (door p i) ≡ toll p i
 
 -- the part and its sibling have arrived: the merge above it is formed
 abbrev pub IsSpent : TilePlan → Words → ℕ → Type 0

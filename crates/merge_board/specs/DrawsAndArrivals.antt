@@ -1,6 +1,7 @@
 -- What a draw and an arrival answer, by the number that their one step found.
 use Rattle.std.specs.Prelude.{◌≡◌, ◌≢◌, ℕ, ◌<◌, ◌≤◌, List, [], ◌∷◌, Option, Some, None}
-use Rattle.tile_plan.specs.Plan.{TilePlan, tile_count, root, parent, weight, sibling, left, right}
+use Rattle.tile_plan.specs.Plan.{TilePlan, tile_count, root, parent, sibling, left, right}
+use Rattle.merge_board.specs.Board.{toll}
 use Rattle.border_climb.specs.Stands.{PartState}
 use Rattle.merge_board.specs.Fits.{Fits, Opened}
 use Rattle.merge_board.specs.Seats.{drawn, missing, idle, with_merge}
@@ -26,7 +27,7 @@ pub record HasMissed (p : TilePlan) (old new : View) : Type 0 where
 abbrev pub IsArrival : TilePlan → ℕ → View → View → Arrival → Type 0
 IsArrival p i old new Waits = (i ≢ root p) × (new ≡ idle old 0)
 IsArrival p i old new (Both number left_part right_part) =
-    (i ≢ root p) × ((number ≡ parent p i) × ((new ≡ with_merge old number (weight p (sibling p i)))
+    (i ≢ root p) × ((number ≡ parent p i) × ((new ≡ with_merge old number (toll p (sibling p i)))
     × (Fits p (left p number) left_part × Fits p (right p number) right_part)))
 IsArrival p i old new Whole = (i ≡ root p) × (new ≡ idle old 0)
 

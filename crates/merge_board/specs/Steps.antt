@@ -2,18 +2,19 @@
 use Rattle.std.specs.Prelude.{◌≡◌, ◌≢◌, ℕ, ◌+◌, ◌<◌, ◌≤◌, List, [], ◌∷◌, Option, Some, None}
 use Rattle.atomic_table.specs.Table.{Me}
 use Rattle.border_climb.specs.Stands.{PartState}
-use Rattle.tile_plan.specs.Plan.{TilePlan, tile_count, part_count, root, parent, weight, sibling}
+use Rattle.tile_plan.specs.Plan.{TilePlan, tile_count, part_count, root, parent, sibling}
+use Rattle.merge_board.specs.Board.{toll}
 use Rattle.merge_board.specs.Fits.{Fits, Opened}
 use Rattle.merge_board.specs.Seats.{drawn, missing, idle, with_merge}
 use Rattle.merge_board.specs.declared.view.View.{View}
 
 -- a and b are the two halves of merge i
-pub record AreHalves (p : TilePlan) (i a b : ℕ) : Type 0 where
+pub record AreBothHalves (p : TilePlan) (i a b : ℕ) : Type 0 where
   pub first : a < part_count p
   pub second : b < part_count p
   pub first_parent : parent p a ≡ i
   pub second_parent : parent p b ≡ i
-  pub weights : weight p a + weight p b ≡ 3
+  pub tolls : toll p a + toll p b ≡ 3
 
 -- the view and the slots that a seat has
 abbrev pub Hold : Type 0
@@ -38,7 +39,7 @@ last_of (x ∷ y ∷ ys) = last_of (y ∷ ys)
 pub record ArrivesWith (i : ℕ) (me : Hold) (n : ℕ) (after : Hold) : Type 0 where
   pub root_zero : i ≡ root me.0.plan → n ≡ 0
   pub waits : n ≡ 0 → (after.0 ≡ idle me.0 n) × (after.1 ≡ [])
-  pub both : n ≢ 0 → (n ≡ weight me.0.plan (sibling me.0.plan i))
+  pub both : n ≢ 0 → (n ≡ toll me.0.plan (sibling me.0.plan i))
       × ((after.0 ≡ with_merge me.0 (parent me.0.plan i) n)
       × ((z : PartState) × (Fits me.0.plan (sibling me.0.plan i) z
       × (after.1 ≡ (parent me.0.plan i, None) ∷ (sibling me.0.plan i, Some z) ∷ (i, last_of me.1) ∷ []))))
@@ -50,7 +51,7 @@ Arrives me n after = (i : ℕ) → me.0.hand ≡ Some i → ArrivesWith i me n a
 abbrev pub AreBelow : TilePlan → ℕ → List (ℕ × Option PartState) → Type 0
 AreBelow p i [] = i < tile_count p
 AreBelow p i (a ∷ []) = ⊥
-AreBelow p i (a ∷ b ∷ []) = (tile_count p ≤ i) × (AreHalves p i a.0 b.0)
+AreBelow p i (a ∷ b ∷ []) = (tile_count p ≤ i) × (AreBothHalves p i a.0 b.0)
 AreBelow p i (a ∷ b ∷ c ∷ cs) = ⊥
 
 -- the slots that a seat holds: that of the part in its hand, then those of the part's halves; an idle seat holds none

@@ -1,14 +1,14 @@
 ghost use Rattle.std.specs.Prelude.{◌≡◌, ◌≢◌, ℕ, ◌+◌, ◌-◌, ◌*◌, ◌^◌, ◌%◌, ◌<◌, ◌≤◌, [], ◌∷◌, None, Some, false, IfSome, IfNone};
-ghost use Rattle.tile_plan.specs.Plan.{IsPlan, part_count, root, parent, weight, sibling, side_of};
+ghost use Rattle.tile_plan.specs.Plan.{IsPlan, part_count, root, parent, sibling, side};
 ghost use Rattle.merge_board.specs.Fits.{Fits};
-ghost use Rattle.merge_board.specs.Board.{door};
+ghost use Rattle.merge_board.specs.Board.{door, toll};
 ghost use Rattle.merge_board.specs.Steps.{AreTurns, ArrivesWith};
 ghost use Rattle.merge_board.specs.Seats.{IsSeatOf};
 ghost use Rattle.merge_board.specs.DrawsAndArrivals.{HasDrawn, HasMissed, IsArrival, HandsHalves, HoldsHalves};
 
 use crate::arrival::Arrival;
 use crate::place;
-use crate::rule::{Arriving, Drawing, BoardRule};
+use crate::rule::{Arriving, BoardRule, Drawing};
 use crate::seat::{Seat, Token};
 use crate::view::{Key, View};
 use atomic_table::Table;
@@ -85,7 +85,7 @@ impl Board {
         self.take_halves(plan, &mut seat.token, number)
     }
 
-    // Puts a part into its slot and adds its weight to the word of the merge above it, in one step giving back the
+    // Puts a part into its slot and adds its toll to the word of the merge above it, in one step giving back the
     // slots that the seat holds; or, where the sibling has arrived, taking the sibling's and the merge's.
     fn put_down(&self, plan: &Plan, token: &mut Token, number: u32, part: Part) -> u64
         requires token { (token.old.table_id ≡ self.now.table) × (token.old.me.0.plan ≡ self.now.plan) }
@@ -100,10 +100,10 @@ impl Board {
     {
         let shared = &self.table.shared;
         let word = place::door(plan, number);
-        let weight = place::weight(plan, number);
+        let toll = place::toll(plan, number);
         shared.exchange(token, number as usize, Some(part));
         token.turn();
-        shared.fetch_add::<Arriving>(token, word, weight)
+        shared.fetch_add::<Arriving>(token, word, toll)
     }
 
     // Takes both halves of the merge above a part out of their slots.

@@ -6,10 +6,10 @@
 ghost use Rattle.std.specs.Prelude.{◌≡◌, ℕ, ◌+◌, ◌%◌, ◌^◌, ◌<◌, ◌≤◌, [], ◌∷◌, ◌++◌, None, Some, Option, true, false, List, replicate, slice_index};
 ghost use lib.ListN.{get_elem?};
 ghost use Rattle.atomic_table.specs.Table.{State, Allows, Splits, Joins, opening, turned};
-ghost use Rattle.tile_plan.specs.Plan.{IsPlan, tile_count, weight};
+ghost use Rattle.tile_plan.specs.Plan.{IsPlan, tile_count};
 ghost use Rattle.border_climb.specs.Stands.{PartState};
 ghost use Rattle.merge_board.specs.Fits.{Fits};
-ghost use Rattle.merge_board.specs.Board.{IsPart, IsStatus, HasOneState, Shows, door};
+ghost use Rattle.merge_board.specs.Board.{IsPart, IsStatus, HasOneState, Shows, door, toll};
 ghost use Rattle.merge_board.specs.Seats.{split_left, split_right, joined, left_over};
 ghost use Rattle.merge_board.specs.RuleOfKey.{rule_of, first_of};
 ghost use Rattle.merge_board.specs.Opening.{AreOpened, KnowsNoDraw};
@@ -40,7 +40,7 @@ pub fn draws_keep_the_rule()
 /// An arrival keeps the rule, whatever it finds: first, second, or that of the root.
 pub fn arrivals_keep_the_rule()
     ensures { (key : Key) (id slots i : ℕ) (v : View) (y : PartState) → v.hand ≡ Some i → v.plan ≡ key.plan.value → Fits key.plan.value i y → (below : List (ℕ × Option PartState)) → AreBelow key.plan.value i below
-        → Allows (rule_of key) slots id (v, below ++ (i, Some y) ∷ []) (door key.plan.value i) (λ z. (z + weight key.plan.value i) % 2 ^ 64) (λ n after. Arrives (v, below ++ (i, Some y) ∷ []) n after) }
+        → Allows (rule_of key) slots id (v, below ++ (i, Some y) ∷ []) (door key.plan.value i) (λ z. (z + toll key.plan.value i) % 2 ^ 64) (λ n after. Arrives (v, below ++ (i, Some y) ∷ []) n after) }
 {}
 
 /// A split of a seat and a join of two seats keep the rule.

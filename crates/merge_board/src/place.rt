@@ -1,7 +1,7 @@
 //! Where the parts of a plan stand on its board.
 ghost use Rattle.std.specs.Prelude.{◌≡◌, ◌≢◌, ◌<◌, ◌≤◌};
-ghost use Rattle.tile_plan.specs.Plan.{IsPlan, part_count, root, parent, weight, sibling, side_of, tile_count};
-ghost use Rattle.merge_board.specs.Board.{door};
+ghost use Rattle.tile_plan.specs.Plan.{IsPlan, part_count, root, parent, sibling, side, tile_count};
+ghost use Rattle.merge_board.specs.Board.{door, toll};
 
 use tile_plan::{Plan, Side};
 
@@ -11,7 +11,7 @@ pub(crate) fn parent(plan: &Plan, number: u32) -> (u32, Side)
     requires part { number < part_count plan.now }
     requires inner { number ≢ root plan.now }
     ensures parent { result.0 ≡ parent plan.now number }
-    ensures side { result.1 ≡ side_of (weight plan.now number) }
+    ensures side { result.1 ≡ side plan.now number }
     ensures merge { tile_count plan.now ≤ result.0 }
     ensures last { result.0 < part_count plan.now }
 {
@@ -51,10 +51,10 @@ pub(crate) fn door(plan: &Plan, number: u32) -> usize
 }
 
 // What a part's arrival adds: 1 for a left half and the root, 2 for a right half.
-pub(crate) fn weight(plan: &Plan, number: u32) -> u64
+pub(crate) fn toll(plan: &Plan, number: u32) -> u64
     requires plan { IsPlan plan.now }
     requires part { number < part_count plan.now }
-    ensures { result ≡ weight plan.now number }
+    ensures { result ≡ toll plan.now number }
 {
     if number == plan.root() {
         return 1;

@@ -98,18 +98,11 @@ fn one_for_all(board: &Board, mut seats: Seats) -> Seat
     let Some(mut seat) = seats.take() else {
         unreachable!()
     };
-    stands_for_some(&seat);
+    seat.stands_for_some();
     while let Some(other) = seats.take() {
         take_in(board, &mut seat, other);
     }
     seat
-}
-
-// Each seat stands for one worker at least.
-fn stands_for_some(seat: &Seat)
-    ensures { 1 ≤ seat.now.view.share }
-{
-    let _ = &seat.number;
 }
 
 // Joins another seat into this one.

@@ -1,4 +1,4 @@
-ghost use Rattle.std.specs.Prelude.{◌≡◌, ◌↔◌, None, true};
+ghost use Rattle.std.specs.Prelude.{◌≡◌, ◌↔◌, ◌≤◌, None, true};
 
 use crate::view::View;
 use border_climb::Part;
@@ -29,6 +29,16 @@ impl Model for Seat {
 }
 
 impl Seat {
+    // Does nothing. It stands where only this is needed: the seat stands for one worker at least, and a board has no
+    // more than 64.
+    #[inline(always)]
+    pub(crate) fn stands_for_some(&self)
+        ensures some { 1 ≤ self.now.view.share }
+        ensures few { self.now.view.workers ≤ 64 }
+    {
+        let _ = &self.number;
+    }
+
     /// The seat's number, from 0 to one less than the board's number of workers.
     pub fn number(&self) -> u32
         ensures { result ≡ self.now.view.number }

@@ -36,7 +36,7 @@ impl Seats {
         requires few { length self.old < seat.view.workers }
         ensures { self.new ≡ self.old ++ seat ∷ [] }
     {
-        let _ = seat.number();
+        seat.stands_for_some();
         let Ok(()) = self.list.push(seat) else {
             unreachable!()
         };

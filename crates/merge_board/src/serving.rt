@@ -64,7 +64,7 @@ pub(crate) fn built(plan: &Plan, tile: u32, part: Part) -> Part
     ensures fits { Fits plan.now tile result }
     ensures plan { IsPlan plan.now }
 {
-    let _ = plan.tiles();
+    plan.keeps_its_rules();
     build_tile(part, tile, plan.lot(tile))
 }
 
@@ -76,6 +76,6 @@ pub(crate) fn merged(plan: &Plan, merge: u32, left_half: Part, right_half: Part)
     requires right { Fits plan.now (right plan.now merge) right_half }
     ensures { Fits plan.now merge result }
 {
-    let _ = plan.tiles();
+    plan.keeps_its_rules();
     join(left_half, right_half, merge, plan.lot(merge))
 }

@@ -47,7 +47,7 @@ fn opened_tile(alloc: Global, plan: &Plan, tile: u32) -> Result<Part, OutOfMemor
     requires tile { tile < tile_count plan.now }
     ensures { IfOk result (λ part. Opened plan.now tile part) }
 {
-    let _ = plan.tiles();
+    plan.keeps_its_rules();
     let (first, count) = plan.range(tile);
     let room = plan.room_of(tile);
     Part::of_tile(alloc, first, count, room)

@@ -24,6 +24,12 @@ covered-within r id at =
     let long = length-map (slots_of r.tables.chunks.items) (λ s. cell_of s) in
     (at.0, omega (arith, at.1, long, r.tables.counted))
 
+-- a number that the tables count is one of the range
+pub covered-seen : (r : Inside) (id : ℕ) → (r.tables.first ≤ id) × (id < r.tables.first + r.tables.count) → IsCovered (pool_of r) id
+covered-seen r id at =
+    let long = length-map (slots_of r.tables.chunks.items) (λ s. cell_of s) in
+    (at.0, omega (arith, at.1, long, r.tables.counted))
+
 -- what stands at a number
 pub cell-read : (r : Inside) (n id : ℕ) (s : Slot) → IsEntry r.tables.first (slots_of r.tables.chunks.items) n id s → cell_at (pool_of r) id ≡ cell_of s
 cell-read r n id s e = entry-read (λ x. cell_of x) r.tables.first (slots_of r.tables.chunks.items) n id s e.number e.within e.read

@@ -1,8 +1,9 @@
 ghost use Rattle.std.specs.Prelude.{◌≡◌, ◌≢◌, ℕ, ◌+◌, ◌<◌, ◌≤◌, ◌∷◌, [], length, Some, IfOk, IfSome, IfNone};
+ghost use Rattle.node_region.specs.Tables.{cell_of, hint_kept, leaf_kept, finger_kept};
 ghost use Rattle.node_region.specs.Pool.{IsCovered, IsUsed, IsPool, IsNextTo, IsKept, count, cell_at, leaf_of, turn_of, hint_of, finger_of, hinted_cell, fresh_pool, with_cell, with_taken, with_given_back, with_leaf, with_hint, with_finger, appended};
 
 use crate::cell::{Cell, Entry, Hint};
-use crate::chunk::{FreeList, Slot};
+use crate::chunk::{FreeList, Place, Slot};
 use crate::tables::Tables;
 use hg_base::{OutOfMemory, Room};
 use std::alloc::{AllocError, Global};
@@ -117,13 +118,34 @@ impl Region {
         self.free = put_in_front(self.free, id);
     }
 
+    // All that is kept of a number.
+    #[inline(always)]
+    fn slot_of(&self, id: u32) -> Slot
+        requires { IsCovered self.now id }
+        ensures cell { cell_of result ≡ cell_at self.now id }
+        ensures turn { result.turn ≡ turn_of self.now id }
+        ensures hint { hint_kept result ≡ hint_of self.now id }
+    {
+        self.tables.slot(self.tables.locate(id))
+    }
+
+    // All that is kept of a place.
+    #[inline(always)]
+    fn place_of(&self, place: u32) -> Place
+        requires { IsCovered self.now place }
+        ensures leaf { leaf_kept result ≡ leaf_of self.now place }
+        ensures finger { finger_kept result ≡ finger_of self.now place }
+    {
+        self.tables.place(self.tables.locate(place))
+    }
+
     /// The cell of a number.
     #[inline(always)]
     pub fn get(&self, id: u32) -> Cell
         requires { IsUsed self.now id }
         ensures { cell_at self.now id ≡ Some result }
     {
-        match self.tables.slot(self.tables.locate(id)).cell() {
+        match self.slot_of(id).cell() {
             Some(cell) => cell,
             None => unreachable!(),
         }
@@ -135,7 +157,7 @@ impl Region {
         requires { IsCovered self.now id }
         ensures { result ≡ cell_at self.now id }
     {
-        self.tables.slot(self.tables.locate(id)).cell()
+        self.slot_of(id).cell()
     }
 
     /// All that is kept of a number that has a cell, read at once.
@@ -144,7 +166,7 @@ impl Region {
         requires { IsUsed self.now id }
         ensures { IsKept self.now id result }
     {
-        let slot = self.tables.slot(self.tables.locate(id));
+        let slot = self.slot_of(id);
         match slot.cell() {
             Some(cell) => Entry {
                 cell,
@@ -172,7 +194,7 @@ impl Region {
         requires { IsCovered self.now place }
         ensures { result ≡ leaf_of self.now place }
     {
-        self.tables.place(self.tables.locate(place)).leaf()
+        self.place_of(place).leaf()
     }
 
     /// Puts the number of a cell above a place, or none.
@@ -193,7 +215,7 @@ impl Region {
         requires { IsCovered self.now id }
         ensures { result ≡ turn_of self.now id }
     {
-        self.tables.slot(self.tables.locate(id)).turn
+        self.slot_of(id).turn
     }
 
     /// What is noted at a number of a cell further up.
@@ -202,7 +224,7 @@ impl Region {
         requires { IsCovered self.now id }
         ensures { result ≡ hint_of self.now id }
     {
-        self.tables.slot(self.tables.locate(id)).hint()
+        self.slot_of(id).hint()
     }
 
     /// Notes at a number where a cell further up is, or nothing.
@@ -222,7 +244,7 @@ impl Region {
         requires { IsCovered self.now place }
         ensures { result ≡ finger_of self.now place }
     {
-        self.tables.place(self.tables.locate(place)).finger()
+        self.place_of(place).finger()
     }
 
     /// Notes at a place where a cell further up is, or nothing.
@@ -241,14 +263,7 @@ impl Region {
     pub fn find(&self, hint: Hint) -> Option<Cell>
         ensures { result ≡ hinted_cell self.now hint }
     {
-        if !self.tables.covers(hint.cell) {
-            return None;
-        }
-        let slot = self.tables.slot(self.tables.locate(hint.cell));
-        match slot.cell() {
-            Some(cell) if slot.turn == hint.turn => Some(cell),
-            _ => None,
-        }
+        Some(self.find_entry(hint)?.cell)
     }
 
     /// All that is kept of the number that a hint names. None where the cell that it means isn't there.
@@ -261,7 +276,7 @@ impl Region {
         if !self.tables.covers(hint.cell) {
             return None;
         }
-        let slot = self.tables.slot(self.tables.locate(hint.cell));
+        let slot = self.slot_of(hint.cell);
         match slot.cell() {
             Some(cell) if slot.turn == hint.turn => Some(Entry {
                 cell,
@@ -285,6 +300,14 @@ impl Region {
             free,
             tables,
         }
+    }
+
+    /// Does nothing. It stands where only this is needed: what every region keeps to, `IsPool`.
+    #[inline(always)]
+    pub fn keeps_its_rules(&self)
+        ensures pool { IsPool self.now }
+    {
+        let _ = &self.tables;
     }
 
     /// The first number.

@@ -116,8 +116,7 @@ fn tree_of_part(alloc: Global, order: &Order, plan: &Plan, part: &Part) -> Resul
     ensures tree { IfOk result (λ tree. tree ≡ tree_of (vertices plan.now) plan.now.edges) }
     ensures fronts { IfOk result (λ tree. IsFrontTree tree (vertices plan.now) plan.now.edges) }
 {
-    // That the plan keeps to what every plan does.
-    let _ = plan.n();
+    plan.keeps_its_rules();
     let edges = PlanEdges { order, plan };
     let lists = drawn(alloc, &edges, part, order.len() as usize)?;
     Ok(tree_of_lists(order, plan, part, lists))
@@ -139,8 +138,7 @@ fn tree_of_part_in_threads(
     ensures tree { IfOk result (λ tree. tree ≡ tree_of (vertices plan.now) plan.now.edges) }
     ensures fronts { IfOk result (λ tree. IsFrontTree tree (vertices plan.now) plan.now.edges) }
 {
-    // That the plan keeps to what every plan does.
-    let _ = plan.n();
+    plan.keeps_its_rules();
     let edges = PlanEdges { order, plan };
     let lists = drawn_in_threads(rt, alloc, &edges, part, order.len() as usize)?;
     Ok(tree_of_lists(order, plan, part, lists))

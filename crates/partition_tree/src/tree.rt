@@ -64,6 +64,14 @@ impl Tree {
         }
     }
 
+    /// Does nothing. It stands where only this is needed: what every tree keeps to, `IsWellFormed`.
+    #[inline(always)]
+    pub fn keeps_its_rules(&self)
+        ensures well_formed { IsWellFormed self.now }
+    {
+        let _ = &self.parents;
+    }
+
     /// How many nodes the tree has.
     pub fn nodes(&self) -> u32
         ensures value { result ≡ nodes self.now }
@@ -216,7 +224,7 @@ impl Tree {
         ensures within { IfSome result (λ i. i < nodes self.now) }
         ensures well_formed { IsWellFormed self.now }
     {
-        let _ = self.nodes();
+        self.keeps_its_rules();
         while a != b {
             (a, b) = self.next(a, b)?;
         }
@@ -247,7 +255,7 @@ impl Tree {
         ensures next { MatchOption result ((j : ℕ) → ¬ IsCommon self.now least other j) (λ next. KeepsCommon self.now least other next other) }
     {
         let _ = other;
-        let _ = self.nodes();
+        self.keeps_its_rules();
         let parent = self.parent(least);
         if parent == least { None } else { Some(parent) }
     }

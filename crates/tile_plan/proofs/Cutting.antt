@@ -1,9 +1,9 @@
 -- The tree of merges of a plan cuts its grid; in blocks the tiles stand in one row.
-use Rattle.std.proofs.Common.{◌≡◌, ℕ, ◌+◌, ◌-◌, ◌*◌, ◌/◌, ◌%◌, ◌<◌, ◌≤◌, true, false, inl, inr, sym, ◌∙◌, ap, subst, arith}
+use Rattle.std.proofs.Common.{◌≡◌, ℕ, ◌-◌, ◌/◌, ◌%◌, ◌<◌, ◌≤◌, true, false, inl, inr, sym, ◌∙◌, ap, subst, arith}
 use Rattle.std.proofs.Math.Nat.{mod-eq_of_lt, div-eq_of_lt, zero-div}
 use Rattle.std.proofs.lemmas.Bool.{cases_lt}
 use Rattle.hg_base.specs.Graph.{WeightedGraph}
-use Rattle.tile_plan.specs.Merges.{MergeTree, Tile, Merge, half, IsCut, tiles, tile_at}
+use Rattle.tile_plan.specs.Merges.{MergeTree, Tile, Merge, half, IsCut, tile_at}
 use Rattle.tile_plan.specs.Sites.{Part}
 use Rattle.tile_plan.specs.Grids.{tree_in}
 use Rattle.tile_plan.specs.TiledPictures.{grid_in, home_in}

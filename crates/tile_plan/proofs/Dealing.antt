@@ -1,5 +1,5 @@
 -- Ranks that lie in order of their lots.
-use Rattle.std.proofs.Common.{◌≡◌, ℕ, ◌<◌, ◌∙◌, sym, ap, arith, List, Some, slice_get, get_or, slice_index}
+use Rattle.std.proofs.Common.{◌≡◌, ℕ, ◌<◌, ◌∙◌, sym, ap, arith, List, Some, slice_get, slice_index}
 use Rattle.std.proofs.lemmas.Option.{get_or_from_slice_get}
 use Rattle.edge_laws.specs.Edges.{ListedEdge, EdgeList, renamed_edge}
 use Rattle.edge_laws.specs.Placed.{placed}

@@ -8,6 +8,7 @@ use Rattle.tile_plan.specs.Sites.{number, left_site, right_site, is_left, find}
 use Rattle.tile_plan.specs.Grids.{IsTreeOf, AreHalves, row_of_part, lot_number}
 use Rattle.tile_plan.specs.declared.site.Grid.{Grid}
 use Rattle.tile_plan.specs.declared.site.Site.{Site}
+use Rattle.tile_plan.specs.declared.site.Side.TheVariants as sides
 use Rattle.tile_plan.specs.declared.site.Row.{Row}
 use Rattle.tile_plan.proofs.Cuts.{tiles-merges, tree_of_one}
 
@@ -34,7 +35,7 @@ is_left-merge n first p x s e h =
 -- the site of a right half by the tiles of both
 pub right_site-is : (n own first second : ℕ) (x y : MergeTree) (s r : Site)
     → own ≡ n + s.first_merge + merges x + merges y → first ≡ tiles x → second ≡ tiles y
-    → r ≡ record { first_tile = s.first_tile + first; first_merge = s.first_merge + (first - 1); parent = own; weight = 2; room = second }
+    → r ≡ record { first_tile = s.first_tile + first; first_merge = s.first_merge + (first - 1); parent = own; side = sides.Right; room = second }
     → r ≡ right_site n x y s
 right_site-is n own first second x y s r e1 e2 e3 e =
     let m = tiles-merges x in
@@ -48,8 +49,8 @@ find-one n c r k p t s h e one = rw (tree_of_one c r t h (sym e ∙ one), one) r
 
 -- what is kept of the halves of a merge: their sites, by the number of the merge and the tiles of both
 pub record Halved (n own first second : ℕ) (a b : Grid) (s l r : Site) : Type 0 where
-  pub left : l ≡ record { first_tile = s.first_tile; first_merge = s.first_merge; parent = own; weight = 1; room = s.room }
-  pub right : r ≡ record { first_tile = s.first_tile + first; first_merge = s.first_merge + (first - 1); parent = own; weight = 2; room = second }
+  pub left : l ≡ record { first_tile = s.first_tile; first_merge = s.first_merge; parent = own; side = sides.Left; room = s.room }
+  pub right : r ≡ record { first_tile = s.first_tile + first; first_merge = s.first_merge + (first - 1); parent = own; side = sides.Right; room = second }
   pub first_tiles : (x : MergeTree) → IsTreeOf a x → first ≡ tiles x
   pub second_tiles : (y : MergeTree) → IsTreeOf b y → second ≡ tiles y
 

@@ -2,14 +2,16 @@
 use Rattle.std.proofs.Common.{◌≡◌, ◌≢◌, ℕ, ◌+◌, ◌-◌, ◌*◌, ◌<◌, ◌≤◌, Bool, inl, inr, refl, sym, ◌∙◌, subst, ap, arith}
 use Rattle.std.proofs.lemmas.Bool.{cases_lt, cases_eq}
 use Rattle.tile_plan.specs.Merges.{MergeTree, Tile, Merge, tiles, merges}
-use Rattle.tile_plan.specs.Sites.{Part, number, left_site, right_site, find, left_number, right_number}
+use Rattle.tile_plan.specs.Sites.{Part, other_side, number, left_site, right_site, find, left_number, right_number}
 use Rattle.tile_plan.specs.Grids.{tree_in, root_of, part_in}
 use Rattle.tile_plan.specs.declared.site.Site.{Site}
-use Rattle.tile_plan.specs.Plan.{TilePlan, IsPlan, grid_of, tile_count, part, part_count, root, first_tile, tiles_of, left, right, parent, weight, sibling, start}
+use Rattle.tile_plan.specs.declared.site.Side.{Side}
+use Rattle.tile_plan.specs.declared.site.Side.TheVariants as sides
+use Rattle.tile_plan.specs.Plan.{TilePlan, IsPlan, grid_of, tile_count, part, part_count, root, first_tile, tiles_of, left, right, parent, side, half_on, sibling, start}
 use Rattle.tile_plan.specs.Laws as laws
 use Rattle.tile_plan.proofs.Cuts.{tiles-merges, tiles-some}
 use Rattle.tile_plan.proofs.Laying.{tree_in-tiles, grid-columns, grid-rows}
-use Rattle.tile_plan.proofs.Parts.{Has, IsFound, HalfOf, found, find-self, left-found, right-found, parent_of, own}
+use Rattle.tile_plan.proofs.Parts.{Has, IsFound, HalfOf, found, find-self, left-found, right-found, half_of_some, own}
 
 -- the part of number i, where it is found in the tree of the plan
 abbrev pub IsPart : TilePlan → ℕ → Part → Type 0
@@ -127,18 +129,26 @@ has_halves p m h low high =
     let l_is = v.left_is in
     let r_is = v.right_is in
     record {
-      left_below = omega (arith, l_is, l_low, own_is);
-      right_below = omega (arith, r_is, r_low, own_is);
-      left_parent = ap (λ (z : Part). z.site.parent) v.left_part ∙ own_is;
-      right_parent = ap (λ (z : Part). z.site.parent) v.right_part ∙ own_is;
-      left_weight = ap (λ (z : Part). z.site.weight) v.left_part;
-      right_weight = ap (λ (z : Part). z.site.weight) v.right_part;
-      left_first = l_first ∙ sym first;
-      right_first = omega (arith, r_first, first, l_tiles);
-      tiles = omega (arith, l_tiles, r_tiles, all);
-      left_place = ap (start p) (l_first ∙ sym first);
-      right_place = ap (start p) (omega (arith, r_first, l_first, l_tiles));
-      right_end = ap (start p) (omega (arith, r_first, first, all, r_tiles));
+      left_half = record {
+        below = omega (arith, l_is, l_low, own_is);
+        parent_is = ap (λ (z : Part). z.site.parent) v.left_part ∙ own_is;
+        side_is = ap (λ (z : Part). z.site.side) v.left_part;
+      };
+      right_half = record {
+        below = omega (arith, r_is, r_low, own_is);
+        parent_is = ap (λ (z : Part). z.site.parent) v.right_part ∙ own_is;
+        side_is = ap (λ (z : Part). z.site.side) v.right_part;
+      };
+      tiles = record {
+        left_first = l_first ∙ sym first;
+        right_first = omega (arith, r_first, first, l_tiles);
+        sum = omega (arith, l_tiles, r_tiles, all);
+      };
+      places = record {
+        left_first = ap (start p) (l_first ∙ sym first);
+        right_first = ap (start p) (omega (arith, r_first, l_first, l_tiles));
+        right_end = ap (start p) (omega (arith, r_first, first, all, r_tiles));
+      };
     }
 
 -- the number of the last part
@@ -156,74 +166,56 @@ root-part p h = ap (find (tile_count p) (tree_in (grid_of p)) (root_of (tile_cou
 plan-some : (p : TilePlan) → IsPlan p → 1 ≤ tile_count p
 plan-some p h = let count = plan-tiles p h in let some = tiles-some (tree_in (grid_of p)) in omega (arith, count, some)
 
-root-parent : (p : TilePlan) → IsPlan p → laws.HasParent p (root p)
+root-parent : (p : TilePlan) → IsPlan p → laws.HasParentAndSide p (root p)
 root-parent p h =
     let is = root-part p h in
     let some = plan-some p h in
     let m : parent p (root p) ≡ 2 * tile_count p - 1 = ap (λ (z : Part). z.site.parent) is in
-    let w : weight p (root p) ≡ 1 = ap (λ (z : Part). z.site.weight) is in
     record {
       later = omega (arith, m, some);
       merge = omega (arith, m, some);
-      some = omega (arith, w);
-      two = omega (arith, w);
       inner = λ off. absurd (off refl);
-      left_half = λ off. absurd (off refl);
-      right_half = λ off. absurd (off refl);
-      sibling_below = λ off. absurd (off refl);
-      sibling_parent = λ off. absurd (off refl);
-      sibling_weight = λ off. absurd (off refl);
-      root_parent = λ e. m;
-      root_weight = λ e. w;
+      of_root = λ e. (m, ap (λ (z : Part). z.site.side) is);
     }
 
--- a part that is a half of m
-half-parent : (p : TilePlan) (i m w other : ℕ) → IsPlan p → tile_count p ≤ m → m < part_count p → i ≢ root p → i < m → parent p i ≡ m → weight p i ≡ w → (1 ≤ w) × (w ≤ 2)
-    → (w ≡ 1 → left p m ≡ i) → (w ≡ 2 → right p m ≡ i) → sibling p i ≡ other → other < m → parent p other ≡ m → weight p other + w ≡ 3 → laws.HasParent p i
-half-parent p i m w other h low high off later is weighs range on_left on_right sib below sib_parent sib_weight =
-    let few : 1 ≤ w = range.0 in
-    let many : w ≤ 2 = range.1 in
+-- a part that is the half of m on a side, and the half on the other side
+half-parent : (p : TilePlan) (i m other : ℕ) (on : Side) → m < part_count p → tile_count p ≤ m → i ≢ root p → laws.IsHalfOn p m on i → laws.IsHalfOn p m (other_side on) other
+    → half_on p m on ≡ i → half_on p m (other_side on) ≡ other → laws.HasParentAndSide p i
+half-parent p i m other on high low off half beside is that =
+    let below = half.below in
+    let other_below = beside.below in
+    let up : parent p i ≡ m = half.parent_is in
+    let side_is : side p i ≡ on = half.side_is in
+    let sib : sibling p i ≡ other = ap (λ (k : ℕ). half_on p k (other_side (side p i))) up ∙ ap (λ (z : Side). half_on p m (other_side z)) side_is ∙ that in
     record {
-      later = omega (arith, is);
-      merge = omega (arith, is);
-      some = omega (arith, weighs);
-      two = omega (arith, weighs);
-      inner = λ o. omega (arith, is);
-      left_half = λ o e. ap (left p) is ∙ on_left (sym weighs ∙ e);
-      right_half = λ o e. ap (right p) is ∙ on_right (sym weighs ∙ e);
-      sibling_below = λ o. omega (arith, sib);
-      sibling_parent = λ o. ap (parent p) sib ∙ sib_parent ∙ sym is;
-      sibling_weight = λ o. (let same : weight p (sibling p i) ≡ weight p other = ap (weight p) sib in omega (arith, same, weighs, sib_weight));
-      root_parent = λ e. absurd (off e);
-      root_weight = λ e. absurd (off e);
+      later = omega (arith, up, below);
+      merge = omega (arith, up, low);
+      inner = λ o. record {
+        within = omega (arith, up, high);
+        half = ap (λ (k : ℕ). half_on p k (side p i)) up ∙ ap (half_on p m) side_is ∙ is;
+        sibling_within = omega (arith, sib, other_below, high);
+        sibling_parent = ap (parent p) sib ∙ beside.parent_is ∙ sym up;
+        sibling_side = ap (side p) sib ∙ beside.side_is ∙ ap other_side (sym side_is);
+      };
+      of_root = λ e. absurd (off e);
     }
 
 -- the halves by number
-left-parent : (p : TilePlan) (i m : ℕ) → IsPlan p → tile_count p ≤ m → m < part_count p → i ≢ root p → left p m ≡ i → laws.HasParent p i
+left-parent : (p : TilePlan) (i m : ℕ) → IsPlan p → tile_count p ≤ m → m < part_count p → i ≢ root p → left p m ≡ i → laws.HasParentAndSide p i
 left-parent p i m h low high off e =
     let v = has_halves p m h low high in
-    let is : parent p i ≡ m = subst (λ (j : ℕ). parent p j ≡ m) e v.left_parent in
-    let w : weight p i ≡ 1 = subst (λ (j : ℕ). weight p j ≡ 1) e v.left_weight in
-    let below : left p m < m = v.left_below in
-    let two : weight p (right p m) ≡ 2 = v.right_weight in
-    half-parent p i m 1 (right p m) h low high off (omega arith) is w (omega arith, omega arith) (λ z. e) (λ z. absurd (omega arith))
-    (rw w (ap (right p) is)) v.right_below v.right_parent (omega (arith, two))
+    half-parent p i m (right p m) sides.Left high low off (subst (laws.IsHalfOn p m sides.Left) e v.left_half) v.right_half e refl
 
-right-parent : (p : TilePlan) (i m : ℕ) → IsPlan p → tile_count p ≤ m → m < part_count p → i ≢ root p → right p m ≡ i → laws.HasParent p i
+right-parent : (p : TilePlan) (i m : ℕ) → IsPlan p → tile_count p ≤ m → m < part_count p → i ≢ root p → right p m ≡ i → laws.HasParentAndSide p i
 right-parent p i m h low high off e =
     let v = has_halves p m h low high in
-    let is : parent p i ≡ m = subst (λ (j : ℕ). parent p j ≡ m) e v.right_parent in
-    let w : weight p i ≡ 2 = subst (λ (j : ℕ). weight p j ≡ 2) e v.right_weight in
-    let below : right p m < m = v.right_below in
-    let one : weight p (left p m) ≡ 1 = v.left_weight in
-    half-parent p i m 2 (left p m) h low high off (omega arith) is w (omega arith, omega arith) (λ z. absurd (omega arith)) (λ z. e)
-    (rw w (ap (left p) is)) v.left_below v.left_parent (omega (arith, one))
+    half-parent p i m (left p m) sides.Right high low off (subst (laws.IsHalfOn p m sides.Right) e v.right_half) v.left_half e refl
 
 -- a half of a part that is a merge
-halved : (p : TilePlan) (i m : ℕ) (q : Part) → IsPlan p → m < part_count p → i < part_count p → i ≢ root p → part p m ≡ q → IsPart p m q → HalfOf (tile_count p) q.tree q.site (part p i) → laws.HasParent p i
+halved : (p : TilePlan) (i m : ℕ) (q : Part) → IsPlan p → m < part_count p → i < part_count p → i ≢ root p → part p m ≡ q → IsPart p m q → HalfOf (tile_count p) q.tree q.site (part p i) → laws.HasParentAndSide p i
 halved p i m q h lm li off e f half = by_tree q.tree q.site e f half
   where
-    by_tree : (t : MergeTree) (s : Site) → part p m ≡ record { tree = t; site = s } → IsPart p m (record { tree = t; site = s }) → HalfOf (tile_count p) t s (part p i) → laws.HasParent p i
+    by_tree : (t : MergeTree) (s : Site) → part p m ≡ record { tree = t; site = s } → IsPart p m (record { tree = t; site = s }) → HalfOf (tile_count p) t s (part p i) → laws.HasParentAndSide p i
     by_tree Tile s e f half = absurd half
     by_tree (Merge by k x y) s e f (inl half) =
         let fi = is_part p i h li in
@@ -236,17 +228,17 @@ halved p i m q h lm li off e f half = by_tree q.tree q.site e f half
         let is : right p m ≡ i = ap (λ (z : Part). right_number (tile_count p) z.tree z.site) e ∙ num in
         right-parent p i m h (let at : own (tile_count p) x y s ≡ m = f.number in omega (arith, at)) lm off is
 
-inner_parent : (p : TilePlan) (i : ℕ) → IsPlan p → i < part_count p → i ≢ root p → laws.HasParent p i
+inner_parent : (p : TilePlan) (i : ℕ) → IsPlan p → i < part_count p → i ≢ root p → laws.HasParentAndSide p i
 unfolding part part_in
 inner_parent p i h l off =
     let count = plan-tiles p h in
-    let m = parent_of (tile_count p) (tree_in (grid_of p)) (root_of (tile_count p)) i (omega (arith, count)) (plan-has p i h l) (λ e. off (e ∙ root-is p h)) in
+    let m = half_of_some (tile_count p) (tree_in (grid_of p)) (root_of (tile_count p)) i (omega (arith, count)) (plan-has p i h l) (λ e. off (e ∙ root-is p h)) in
     let lm = has-below p m.at h m.has in
     halved p i m.at (part p m.at) h lm l off refl (is_part p m.at h lm) m.half
 
-pub has_parent : (p : TilePlan) (i : ℕ) → IsPlan p → i < part_count p → laws.HasParent p i
+pub has_parent : (p : TilePlan) (i : ℕ) → IsPlan p → i < part_count p → laws.HasParentAndSide p i
 has_parent p i h l =
     elim (cases_eq i (root p)) [
-      | inl level ↦ subst (laws.HasParent p) (sym level) (root-parent p h)
+      | inl level ↦ subst (laws.HasParentAndSide p) (sym level) (root-parent p h)
       | inr off ↦ inner_parent p i h l off
     ]

@@ -157,45 +157,45 @@ HalfOf n Tile s h = ⊥
 HalfOf n (Merge by k x y) s h = (h ≡ record { tree = x; site = left_site n x y s }) ⊎ (h ≡ record { tree = y; site = right_site n x y s })
 
 -- each part but the last is a half of one
-pub record HasParent (n : ℕ) (t : MergeTree) (s : Site) (h : Part) : Type 0 where
+pub record IsHalfOfSome (n : ℕ) (t : MergeTree) (s : Site) (h : Part) : Type 0 where
   pub at : ℕ
   pub has : Has n t s at
   pub half : HalfOf n (find n t s at).tree (find n t s at).site h
 
-parent-through : (n : ℕ) (t : MergeTree) (s : Site) (t' : MergeTree) (s' : Site) (h : Part) → Within t s t' s' → ((j : ℕ) → Has n t' s' j → find n t s j ≡ find n t' s' j) → HasParent n t' s' h → HasParent n t s h
-parent-through n t s t' s' h w same m = record {
+half-through : (n : ℕ) (t : MergeTree) (s : Site) (t' : MergeTree) (s' : Site) (h : Part) → Within t s t' s' → ((j : ℕ) → Has n t' s' j → find n t s j ≡ find n t' s' j) → IsHalfOfSome n t' s' h → IsHalfOfSome n t s h
+half-through n t s t' s' h w same m = record {
   at = m.at;
   has = Has-within n t s t' s' m.at w m.has;
   half = subst (λ (q : Part). HalfOf n q.tree q.site h) (sym (same m.at m.has)) m.half;
 }
 
-pub parent_of : (n : ℕ) (t : MergeTree) (s : Site) (i : ℕ) → s.first_tile + tiles t ≤ n → Has n t s i → i ≢ number n t s → HasParent n t s (find n t s i)
-parent_of n Tile s i fits h off =
+pub half_of_some : (n : ℕ) (t : MergeTree) (s : Site) (i : ℕ) → s.first_tile + tiles t ≤ n → Has n t s i → i ≢ number n t s → IsHalfOfSome n t s (find n t s i)
+half_of_some n Tile s i fits h off =
     elim (cases_lt i n) [
       | inl tile ↦ absurd (off (let a = h.tile_low tile in let b = h.tile_high tile in omega arith))
       | inr merge ↦ absurd (let a = h.merge_low merge in let b = h.merge_high merge in omega arith)
     ]
-parent_of n (Merge by k x y) s i fits h off =
+half_of_some n (Merge by k x y) s i fits h off =
     let my = tiles-some y in
     let itself = find-self n (Merge by k x y) s in
     elim (where_is n by k x y s i h) [
       | inl level ↦ absurd (off level)
       | inr half ↦ elim half [
-        | inl l ↦ subst (HasParent n (Merge by k x y) s) (sym (left-finds n by k x y s i l)) (elim (cases_eq i (number n x (left_site n x y s))) [
+        | inl l ↦ subst (IsHalfOfSome n (Merge by k x y) s) (sym (left-finds n by k x y s i l)) (elim (cases_eq i (number n x (left_site n x y s))) [
           | inl level ↦ record {
             at = own n x y s;
             has = Has-number n (Merge by k x y) s fits;
             half = subst (λ (q : Part). HalfOf n q.tree q.site (find n x (left_site n x y s) i)) (sym itself) (inl (ap (find n x (left_site n x y s)) level ∙ find-self n x (left_site n x y s)));
           }
-          | inr apart ↦ parent-through n (Merge by k x y) s x (left_site n x y s) (find n x (left_site n x y s) i) (Within-left n by k x y s) (left-finds n by k x y s) (parent_of n x (left_site n x y s) i (omega arith) l apart)
+          | inr apart ↦ half-through n (Merge by k x y) s x (left_site n x y s) (find n x (left_site n x y s) i) (Within-left n by k x y s) (left-finds n by k x y s) (half_of_some n x (left_site n x y s) i (omega arith) l apart)
         ])
-        | inr r ↦ subst (HasParent n (Merge by k x y) s) (sym (right-finds n by k x y s i r)) (elim (cases_eq i (number n y (right_site n x y s))) [
+        | inr r ↦ subst (IsHalfOfSome n (Merge by k x y) s) (sym (right-finds n by k x y s i r)) (elim (cases_eq i (number n y (right_site n x y s))) [
           | inl level ↦ record {
             at = own n x y s;
             has = Has-number n (Merge by k x y) s fits;
             half = subst (λ (q : Part). HalfOf n q.tree q.site (find n y (right_site n x y s) i)) (sym itself) (inr (ap (find n y (right_site n x y s)) level ∙ find-self n y (right_site n x y s)));
           }
-          | inr apart ↦ parent-through n (Merge by k x y) s y (right_site n x y s) (find n y (right_site n x y s) i) (Within-right n by k x y s) (right-finds n by k x y s) (parent_of n y (right_site n x y s) i (omega arith) r apart)
+          | inr apart ↦ half-through n (Merge by k x y) s y (right_site n x y s) (find n y (right_site n x y s) i) (Within-right n by k x y s) (right-finds n by k x y s) (half_of_some n y (right_site n x y s) i (omega arith) r apart)
         ])
       ]
     ]

@@ -13,11 +13,10 @@ use Rattle.tile_plan.proofs.Cuts.{tiles-some}
 use Rattle.tile_plan.specs.Sites.{is_lot_of}
 use Rattle.tile_plan.specs.Grids.{tree_in, part_in, rows_of, row_of_part}
 use Rattle.tile_plan.specs.Placing.{IsTable}
-use Rattle.tile_plan.specs.Plan.{TilePlan, IsPlan, grid_of, tile_count, part_count, root, vertices, part, home, place_of, start, left, right, parent, weight, first_tile, tiles_of, parent, room_tiles, lot_between_vertices, lot_edges}
+use Rattle.tile_plan.specs.Plan.{TilePlan, IsPlan, grid_of, tile_count, part_count, root, vertices, part, home, place_of, start, left, right, parent, side, first_tile, tiles_of, parent_and_side, room_tiles, lot_between_vertices, lot_edges}
 use Rattle.tile_plan.specs.PlanFields.{HoldsPlaces, HoldsLots, HoldsPlan, plan_of}
 use Rattle.tile_plan.specs.declared.site.Row.{Row}
 use Rattle.tile_plan.specs.declared.site.Side.{Side}
-use Rattle.tile_plan.specs.declared.site.Side.TheVariants as sides
 use Rattle.tile_plan.specs.declared.plan.Plan.TheInside.{Inside}
 use Rattle.tile_plan.proofs.Descents.{eq-false}
 use Rattle.tile_plan.proofs.Parents.{plan-tiles}
@@ -48,7 +47,7 @@ rows-length q rows same = ap length same ∙ length-map-range_with_len (λ i. ro
 pub record IsRow (q : TilePlan) (i : ℕ) (row : Row) : Type 0 where
   pub first_tile : row.site.first_tile ≡ first_tile q i
   pub parent : row.site.parent ≡ parent q i
-  pub weight : row.site.weight ≡ weight q i
+  pub side : row.site.side ≡ side q i
   pub room : row.site.room ≡ (part q i).site.room
   pub tiles : row.tiles ≡ tiles_of q i
   pub left : row.left ≡ left q i
@@ -62,7 +61,7 @@ row-read q i rows row same l read =
     record {
       first_tile = ap (λ (r : Row). r.site.first_tile) is;
       parent = ap (λ (r : Row). r.site.parent) is;
-      weight = ap (λ (r : Row). r.site.weight) is;
+      side = ap (λ (r : Row). r.site.side) is;
       room = ap (λ (r : Row). r.site.room) is;
       tiles = ap (λ (r : Row). r.tiles) is;
       left = ap (λ (r : Row). r.left) is;
@@ -123,12 +122,9 @@ vertex-found q place v p h hp l before found =
           record { value = sym (hp.places.at v below) ∙ found (omega (arith, long, below)); below = below }
     ]
 
--- the parent of a part that isn't the root
-pub parent-left : (q : TilePlan) (i : ℕ) (row : Row) → IsRow q i row → (i ≡ root q → ⊥) → row.site.weight ≡ 1 → ◌≡◌ {A = Option (ℕ × Side)} (Some (row.site.parent, sides.Left)) (parent q i)
-parent-left q i row h off one = rw (eq-false i (root q) off, ← h.parent, eq-eqb (weight q i) 1 (sym h.weight ∙ one)) refl
-
-pub parent-right : (q : TilePlan) (i : ℕ) (row : Row) → IsRow q i row → (i ≡ root q → ⊥) → (row.site.weight ≡ 1 → ⊥) → ◌≡◌ {A = Option (ℕ × Side)} (Some (row.site.parent, sides.Right)) (parent q i)
-parent-right q i row h off two = rw (eq-false i (root q) off, ← h.parent, eq-false (weight q i) 1 (λ e. two (h.weight ∙ e))) refl
+-- the parent of a part that isn't the root, and the side on which the part stands
+pub parent-read : (q : TilePlan) (i : ℕ) (row : Row) → IsRow q i row → (i ≡ root q → ⊥) → ◌≡◌ {A = Option (ℕ × Side)} (Some (row.site.parent, row.site.side)) (parent_and_side q i)
+parent-read q i row h off = rw (eq-false i (root q) off, ← h.parent, ← h.side) refl
 
 -- the room of a tile stays among the tiles
 pub room-at : (q : TilePlan) (t : ℕ) → IsPlan q → t < tile_count q → t + room_tiles q t ≤ tile_count q

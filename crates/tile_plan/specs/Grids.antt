@@ -5,6 +5,7 @@ use Rattle.tile_plan.specs.Merges.{MergeTree, Tile, Merge, half, merge_tree, IsC
 use Rattle.tile_plan.specs.Sites.{Part, find, left_site, right_site, left_number, right_number}
 use Rattle.tile_plan.specs.declared.site.Grid.{Grid}
 use Rattle.tile_plan.specs.declared.site.Site.{Site}
+use Rattle.tile_plan.specs.declared.site.Side.TheVariants as sides
 use Rattle.tile_plan.specs.declared.site.Row.{Row}
 
 -- how many tiles a grid has
@@ -66,7 +67,7 @@ lot_number n (Merge by k x y) s a b =
 
 -- where the root of a plan of n tiles stands; its parent is a part of its own, beyond the last
 abbrev pub root_of : ℕ → Site
-root_of n = record { first_tile = 0; first_merge = 0; parent = 2 * n - 1; weight = 1; room = n }
+root_of n = record { first_tile = 0; first_merge = 0; parent = 2 * n - 1; side = sides.Left; room = n }
 
 -- the tree of merges of a grid
 abbrev pub tree_in : Grid → MergeTree

@@ -3,37 +3,51 @@ use Rattle.std.specs.Prelude.{◌≡◌, ◌≢◌, ℕ, ◌+◌, ◌-◌, ◌*�
 use Rattle.edge_laws.specs.Edges.{ListedEdge, AreApart}
 use Rattle.hg_base.specs.Lists.{IsIn}
 use Rattle.edge_laws.specs.Rising.{IsRising}
-use Rattle.tile_plan.specs.Plan.{TilePlan, IsEdgeAmong, vertices, tile_count, part_count, root, first_tile, tiles_of, left, right, parent, weight, sibling, first_place, end_place, IsPlaceOf, post, place_of, home, lot_edges, edges_at, room_tiles}
+use Rattle.tile_plan.specs.Sites.{other_side}
+use Rattle.tile_plan.specs.declared.site.Side.{Side}
+use Rattle.tile_plan.specs.declared.site.Side.TheVariants as sides
+use Rattle.tile_plan.specs.Plan.{TilePlan, IsEdgeAmong, vertices, tile_count, part_count, root, first_tile, tiles_of, left, right, parent, side, half_on, sibling, first_place, end_place, IsPlaceOf, post, place_of, home, lot_edges, edges_at, room_tiles}
 
--- the parent of a part, and which half of it the part is: 1 for the left one, 2 for the right one
-pub record HasParent (p : TilePlan) (i : ℕ) : Type 0 where
+-- the part is the half of its parent on its side, and its sibling is the other half
+pub record IsHalfOfParent (p : TilePlan) (i : ℕ) : Type 0 where
+  pub within : parent p i < part_count p
+  pub half : half_on p (parent p i) (side p i) ≡ i
+  pub sibling_within : sibling p i < part_count p
+  pub sibling_parent : parent p (sibling p i) ≡ parent p i
+  pub sibling_side : side p (sibling p i) ≡ other_side (side p i)
+
+-- The parent of a part, a later merge, and the side on which the part stands. The root's parent is the number after the
+-- last part, and the root stands as a left half.
+pub record HasParentAndSide (p : TilePlan) (i : ℕ) : Type 0 where
   pub later : i < parent p i
   pub merge : tile_count p ≤ parent p i
-  pub some : 1 ≤ weight p i
-  pub two : weight p i ≤ 2
-  pub inner : i ≢ root p → parent p i < part_count p
-  pub left_half : i ≢ root p → weight p i ≡ 1 → left p (parent p i) ≡ i
-  pub right_half : i ≢ root p → weight p i ≡ 2 → right p (parent p i) ≡ i
-  pub sibling_below : i ≢ root p → sibling p i < part_count p
-  pub sibling_parent : i ≢ root p → parent p (sibling p i) ≡ parent p i
-  pub sibling_weight : i ≢ root p → weight p (sibling p i) + weight p i ≡ 3
-  pub root_parent : i ≡ root p → parent p i ≡ 2 * tile_count p - 1
-  pub root_weight : i ≡ root p → weight p i ≡ 1
+  pub inner : i ≢ root p → IsHalfOfParent p i
+  pub of_root : i ≡ root p → (parent p i ≡ 2 * tile_count p - 1) × (side p i ≡ sides.Left)
+
+-- part i is a half of merge m, and stands on this side
+pub record IsHalfOn (p : TilePlan) (m : ℕ) (on : Side) (i : ℕ) : Type 0 where
+  pub below : i < m
+  pub parent_is : parent p i ≡ m
+  pub side_is : side p i ≡ on
+
+-- the tiles of merge m are those of its left half, then those of its right half
+pub record DividesTiles (p : TilePlan) (m : ℕ) : Type 0 where
+  pub left_first : first_tile p (left p m) ≡ first_tile p m
+  pub right_first : first_tile p (right p m) ≡ first_tile p m + tiles_of p (left p m)
+  pub sum : tiles_of p (left p m) + tiles_of p (right p m) ≡ tiles_of p m
+
+-- and its places are those of its left half, then those of its right half
+pub record DividesPlaces (p : TilePlan) (m : ℕ) : Type 0 where
+  pub left_first : first_place p (left p m) ≡ first_place p m
+  pub right_first : first_place p (right p m) ≡ end_place p (left p m)
+  pub right_end : end_place p (right p m) ≡ end_place p m
 
 -- the halves of merge m: who they are, and that their tiles and places follow each other
 pub record HasHalves (p : TilePlan) (m : ℕ) : Type 0 where
-  pub left_below : left p m < m
-  pub right_below : right p m < m
-  pub left_parent : parent p (left p m) ≡ m
-  pub right_parent : parent p (right p m) ≡ m
-  pub left_weight : weight p (left p m) ≡ 1
-  pub right_weight : weight p (right p m) ≡ 2
-  pub left_first : first_tile p (left p m) ≡ first_tile p m
-  pub right_first : first_tile p (right p m) ≡ first_tile p m + tiles_of p (left p m)
-  pub tiles : tiles_of p (left p m) + tiles_of p (right p m) ≡ tiles_of p m
-  pub left_place : first_place p (left p m) ≡ first_place p m
-  pub right_place : first_place p (right p m) ≡ end_place p (left p m)
-  pub right_end : end_place p (right p m) ≡ end_place p m
+  pub left_half : IsHalfOn p m sides.Left (left p m)
+  pub right_half : IsHalfOn p m sides.Right (right p m)
+  pub tiles : DividesTiles p m
+  pub places : DividesPlaces p m
 
 -- the parts and the edges at and below merge m are those of its halves, then itself and its lot
 pub record JoinsHalves (p : TilePlan) (m : ℕ) : Type 0 where

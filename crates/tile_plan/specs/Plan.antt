@@ -7,7 +7,7 @@ use Rattle.edge_laws.specs.Edges.{ListedEdge, EdgeList, renamed}
 use Rattle.hg_base.specs.Lists.{IsIn}
 use Rattle.edge_laws.specs.Rising.{IsRising}
 use Rattle.tile_plan.specs.Merges.{tiles}
-use Rattle.tile_plan.specs.Sites.{Part, post_order, is_lot_of, left_number, right_number}
+use Rattle.tile_plan.specs.Sites.{Part, other_side, post_order, is_lot_of, left_number, right_number}
 use Rattle.tile_plan.specs.Grids.{tiles_in, part_in}
 use Rattle.tile_plan.specs.TiledPictures.{vertices_in, grid_in, home_in, IsFrame}
 use Rattle.tile_plan.specs.Placing.{place_by, start_by}
@@ -87,21 +87,22 @@ right p i = right_number (tile_count p) (part p i).tree (part p i).site
 abbrev pub parent : TilePlan → ℕ → ℕ
 parent p i = (part p i).site.parent
 
--- which half of it: 1 for the left one, 2 for the right one; the root's weight is 1
-abbrev pub weight : TilePlan → ℕ → ℕ
-weight p i = (part p i).site.weight
+-- which half of it; the root stands as a left half
+abbrev pub side : TilePlan → ℕ → Side
+side p i = (part p i).site.side
+
+-- the half of a merge on a side
+abbrev pub half_on : TilePlan → ℕ → Side → ℕ
+half_on p m sides.Left = left p m
+half_on p m sides.Right = right p m
 
 -- the other half of the same merge
 abbrev pub sibling : TilePlan → ℕ → ℕ
-sibling p i = if weight p i == 1 then right p (parent p i) else left p (parent p i)
-
--- a weight as a side
-abbrev pub side_of : ℕ → Side
-side_of w = if w == 1 then sides.Left else sides.Right
+sibling p i = half_on p (parent p i) (other_side (side p i))
 
 -- the merge above a part, and the side on which it stands
 abbrev pub parent_and_side : TilePlan → ℕ → Option (ℕ × Side)
-parent_and_side p i = if i == root p then None else Some (parent p i, side_of (weight p i))
+parent_and_side p i = if i == root p then None else Some (parent p i, side p i)
 
 -- the first place of a part
 abbrev pub first_place : TilePlan → ℕ → ℕ

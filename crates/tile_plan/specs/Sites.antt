@@ -2,11 +2,18 @@
 use Rattle.std.specs.Prelude.{ℕ, ◌+◌, ◌==◌, Bool, ◌&&◌, ◌||◌, List, [], ◌∷◌, ◌++◌, nat_lt, nat_le, if◌then◌else◌}
 use Rattle.tile_plan.specs.Merges.{MergeTree, Tile, Merge, tiles, merges}
 use Rattle.tile_plan.specs.declared.site.Site.{Site}
+use Rattle.tile_plan.specs.declared.site.Side.{Side}
+use Rattle.tile_plan.specs.declared.site.Side.TheVariants as sides
 
 -- a part: the tree at and below it, and where it stands
 pub record Part : Type 0 where
   pub tree : MergeTree
   pub site : Site
+
+-- the side of the other half
+abbrev pub other_side : Side → Side
+other_side sides.Left = sides.Right
+other_side sides.Right = sides.Left
 
 -- the number of the part: tiles are numbered from 0 and merges from n, in post-order
 abbrev pub number : ℕ → MergeTree → Site → ℕ
@@ -19,7 +26,7 @@ left_site n x y s = record {
   first_tile = s.first_tile;
   first_merge = s.first_merge;
   parent = n + s.first_merge + merges x + merges y;
-  weight = 1;
+  side = sides.Left;
   room = s.room;
 }
 
@@ -29,7 +36,7 @@ right_site n x y s = record {
   first_tile = s.first_tile + tiles x;
   first_merge = s.first_merge + merges x;
   parent = n + s.first_merge + merges x + merges y;
-  weight = 2;
+  side = sides.Right;
   room = tiles y;
 }
 

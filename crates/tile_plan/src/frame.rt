@@ -34,8 +34,7 @@ impl Frame {
         ensures value { result ≡ record { width = width; height = height; side = side } }
         ensures frame { IsFrame result }
     {
-        // That the graph has from 1 to 1,048,576 vertices.
-        let _ = graph.n();
+        graph.keeps_its_rules();
         Frame {
             width,
             height,

@@ -6,7 +6,7 @@ ghost use Rattle.hg_base.specs.Lists.{IsIn};
 ghost use Rattle.hg_base.specs.Counting.{IsOneToOne};
 ghost use Rattle.tile_plan.specs.Merges.{IsCut};
 ghost use Rattle.tile_plan.specs.Plan.{TilePlan, IsPlan, blocks, edges_at, grid_of, home, lot_between_vertices, lot_edges, part, part_count, place_of, root, tile_count, vertices};
-ghost use Rattle.tile_plan.specs.Laws.{Crosses, HasEdges, HasHalves, HasParent, IsSomewhere, IsTile, JoinsHalves};
+ghost use Rattle.tile_plan.specs.Laws.{Crosses, HasEdges, HasHalves, HasParentAndSide, IsSomewhere, IsTile, JoinsHalves};
 
 /// The tree of the root cuts the grid of tiles: a rectangle of more than one tile is halved by columns where it has at
 /// least as many of them as rows, else by rows, and the first half is the greater. In blocks of `size` vertices vertex
@@ -19,7 +19,7 @@ pub fn cutting_of_a_plan()
 /// Each part but the root is a half of a later merge, and each merge has two halves, whose tiles and places follow
 /// each other.
 pub fn parts_of_a_plan()
-    ensures parents { (p : TilePlan) (i : ℕ) → IsPlan p → i < part_count p → HasParent p i }
+    ensures parents { (p : TilePlan) (i : ℕ) → IsPlan p → i < part_count p → HasParentAndSide p i }
     ensures halves { (p : TilePlan) (m : ℕ) → IsPlan p → tile_count p ≤ m → m < part_count p → HasHalves p m }
 {}
 

@@ -78,8 +78,7 @@ pub(crate) fn lot_numbers<W: Filling>(
     ensures rising { IfOk result (λ _. IsRising order.now.edges) }
     ensures edges { IfOk result (λ _. (e : ListedEdge) → IsIn e order.now.edges → IsEdgeAmong order.now.n e) }
 {
-    // That the ends of each edge are among the graph's vertices.
-    let _ = graph.n();
+    graph.keeps_its_rules();
     let own = lots_by_number(filling, alloc, graph, grid, homes)?;
     let mut numbers = vec![in alloc; 0; order.len() as usize]?;
     filling.rank_lots(order, &own, &mut numbers);

@@ -127,11 +127,7 @@ impl Plan {
         requires order { order.now ≡ order_of graph.now }
         ensures { IsAnswer (blocks graph.now tile) result }
     {
-        if order.len() < FEW {
-            return Plan::blocks(alloc, graph, order, tile);
-        }
-        let threads = InThreads { rt };
-        Plan::over(&threads, alloc, graph, order, Frame::row(graph, tile))
+        Plan::over_in_threads(rt, alloc, graph, order, Frame::row(graph, tile))
     }
 
     /// The plan of a graph whose vertices are the pixels of a picture, row after row, and whose tiles are squares of
@@ -168,11 +164,27 @@ impl Plan {
         requires pixels { width * height ≡ graph.now.n }
         ensures { IsAnswer (squares graph.now width height tile) result }
     {
+        let frame = Frame::picture(graph, width, height, tile);
+        Plan::over_in_threads(rt, alloc, graph, order, frame)
+    }
+
+    // The plan over a frame, in as many threads as can be had where the graph has many edges.
+    fn over_in_threads(
+        rt: &(impl Threads + Sync),
+        alloc: Global,
+        graph: &Graph,
+        order: &Order,
+        frame: Frame,
+    ) -> Result<Plan, PlanFault>
+        requires order { order.now ≡ order_of graph.now }
+        requires frame { IsFrame frame }
+        requires vertices { order.now.n ≡ vertices_in frame }
+        ensures { IsAnswer (record { frame = frame; edges = order.now.edges }) result }
+    {
         if order.len() < FEW {
-            return Plan::squares(alloc, graph, order, width, height, tile);
+            return Plan::over(&InTurn, alloc, graph, order, frame);
         }
         let threads = InThreads { rt };
-        let frame = Frame::picture(graph, width, height, tile);
         Plan::over(&threads, alloc, graph, order, frame)
     }
 
@@ -228,6 +240,14 @@ impl Plan {
         })
     }
 
+    /// Does nothing. It stands where only this is needed: what every plan keeps to, `IsPlan`.
+    #[inline(always)]
+    pub fn keeps_its_rules(&self)
+        ensures plan { IsPlan self.now }
+    {
+        let _ = &self.tiles;
+    }
+
     /// How many tiles there are: parts 0 to `tiles()` - 1. The other parts are merges.
     pub fn tiles(&self) -> u32
         ensures value { result ≡ tile_count self.now }
@@ -269,8 +289,7 @@ impl Plan {
         if p == self.root() {
             return None;
         }
-        let Site { parent, weight, .. } = self.rows[p as usize].site;
-        let side = if weight == 1 { Side::Left } else { Side::Right };
+        let Site { parent, side, .. } = self.rows[p as usize].site;
         Some((parent, side))
     }
 

@@ -2,6 +2,7 @@ ghost use Rattle.std.specs.Prelude.{◌≡◌, ℕ, ◌+◌, ◌-◌, ◌*◌, �
 ghost use Rattle.tile_plan.specs.Merges.{MergeTree, merges, tile_at, tiles};
 ghost use Rattle.tile_plan.specs.Sites.{find, is_left, left_site, number, right_site};
 ghost use Rattle.tile_plan.specs.Grids.{AreHalves, AreSideBySide, AreStacked, IsSited, IsSmall, IsTreeOf, lot_number, row_of_part, tiles_in};
+ghost use Rattle.tile_plan.specs.declared.site.Side.TheVariants as sides;
 
 /// Which half of a merge a part is.
 #[derive(Clone, Copy, Debug, PartialEq, Eq)]
@@ -24,7 +25,7 @@ pub(crate) struct Site {
     pub(crate) first_tile: u32,
     pub(crate) first_merge: u32,
     pub(crate) parent: u32,
-    pub(crate) weight: u32,
+    pub(crate) side: Side,
     pub(crate) room: u32,
 }
 
@@ -132,11 +133,11 @@ fn number(n: u32, grid: Grid, site: Site) -> u32
 
 // Where the left half of a merge stands.
 fn left_site(site: Site, parent: u32) -> Site
-    ensures same { result ≡ record { first_tile = site.first_tile; first_merge = site.first_merge; parent = parent; weight = 1; room = site.room } }
+    ensures same { result ≡ record { first_tile = site.first_tile; first_merge = site.first_merge; parent = parent; side = sides.Left; room = site.room } }
 {
     Site {
         parent,
-        weight: 1,
+        side: Side::Left,
         ..site
     }
 }
@@ -146,13 +147,13 @@ fn right_site(site: Site, parent: u32, first: u32, second: u32) -> Site
     requires some { 1 ≤ first }
     requires tile { site.first_tile + first ≤ 65536 }
     requires merge { site.first_merge ≤ site.first_tile }
-    ensures { result ≡ record { first_tile = site.first_tile + first; first_merge = site.first_merge + (first - 1); parent = parent; weight = 2; room = second } }
+    ensures { result ≡ record { first_tile = site.first_tile + first; first_merge = site.first_merge + (first - 1); parent = parent; side = sides.Right; room = second } }
 {
     Site {
         first_tile: site.first_tile + first,
         first_merge: site.first_merge + (first - 1),
         parent,
-        weight: 2,
+        side: Side::Right,
         room: second,
     }
 }

@@ -14,7 +14,7 @@ ghost use Rattle.tile_plan.specs.Dealing.{IsLotOf, laid};
 use crate::filling::Filling;
 use crate::frame::Frame;
 use crate::placing;
-use crate::site::{Grid, Row, Site, find, lot_of};
+use crate::site::{Grid, Row, Side, Site, find, lot_of};
 use edge_order::Order;
 use hg_base::{Graph, PlacedEdge};
 use std::alloc::{AllocError, Global};
@@ -29,7 +29,7 @@ fn root(n: u32) -> Site
         first_tile: 0,
         first_merge: 0,
         parent: 2 * n - 1,
-        weight: 1,
+        side: Side::Left,
         room: n,
     }
 }

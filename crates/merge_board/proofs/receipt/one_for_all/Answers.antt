@@ -2,7 +2,6 @@ use Rattle.std.proofs.Common.{rules, ◌≡◌, ◌+◌, ◌≤◌, length, [], 
 use Rattle.std.proofs.lemmas.List.{length-append}
 use Rattle.merge_board.proofs.receipt.one_for_all.Goals as goal
 
--- src/receipt.rt:90:1
 pub returns-clause-share : goal.returns-clause-share
 returns-clause-share c =
     let none : c.loop-other.seats ≡ [] = search rules in

@@ -50,4 +50,4 @@ returns-clause-edges g c =
     let graph = c.args.graph.now in
     let few : length graph.edges ≤ 4194304 = omega (arith, as-many graph c.args.order.now c.requires.order, c.len.ensures.edges) in
     λ e i. subst (λ (n : ℕ). IsEdgeAmong n e) (sym (ap (λ (o : EdgeOrder). o.n) c.requires.order))
-    (ranked-among graph c.n.ensures.graph.ends few e (subst (λ (t : EdgeList). IsIn e t) (ap (λ (o : EdgeOrder). o.edges) c.requires.order) i))
+    (ranked-among graph c.keeps_its_rules.ensures.graph.ends few e (subst (λ (t : EdgeList). IsIn e t) (ap (λ (o : EdgeOrder). o.edges) c.requires.order) i))

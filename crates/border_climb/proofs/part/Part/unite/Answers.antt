@@ -22,15 +22,15 @@ invariant_of-result c =
     let had : 2 * c.self.inside.region.room.chunks ≤ vec_capacity c.self.inside.lots + 1 = c.self.invariant.reserved in
     let more : vec_capacity c.self.inside.lots ≤ vec_capacity c.put_behind-lots.result = c.put_behind-lots.ensures.capacity in
     record {
-      sound = subst IsSound (sym c.append.ensures) (sound-united c.self.inside.region c.other.inside.region c.count.ensures.pool c.count-2.ensures.pool next c.self.invariant.sound c.other.invariant.sound);
+      sound = subst IsSound (sym c.append.ensures) (sound-united c.self.inside.region c.other.inside.region c.keeps_its_rules.ensures.pool c.keeps_its_rules-2.ensures.pool next c.self.invariant.sound c.other.invariant.sound);
       reserved = omega arith;
     }
 
 pub returns-clause-stands : goal.returns-clause-stands
 returns-clause-stands c = λ s r m.
     stands-united c.args.self c.args.other (record { region = c.append.result; lots = c.put_behind-lots.result.items; given = c.self.inside.given + c.other.inside.given }) s r
-    (subst (λ (p : PartState). IsPool p.region) c.self.view_is c.count.ensures.pool)
-    (subst (λ (p : PartState). IsPool p.region) c.other.view_is c.count-2.ensures.pool)
+    (subst (λ (p : PartState). IsPool p.region) c.self.view_is c.keeps_its_rules.ensures.pool)
+    (subst (λ (p : PartState). IsPool p.region) c.other.view_is c.keeps_its_rules-2.ensures.pool)
     c.requires.next m
     (c.append.ensures ∙ ap (λ (p : PartState). appended p.region c.other.inside.region) c.self.view_is ∙ ap (λ (p : PartState). appended c.args.self.region p.region) c.other.view_is)
     (ap (λ (p : PartState). p.given + c.other.inside.given) c.self.view_is ∙ ap (λ (p : PartState). c.args.self.given + p.given) c.other.view_is)

@@ -1,5 +1,5 @@
 use Rattle.std.proofs.Common.{rules, ◌≡◌, [], ◌∷◌, None, Some, ap, sym, subst, ◌∙◌}
-use Rattle.tile_plan.specs.Plan.{TilePlan, IsPlan, parent, weight, sibling, side_of}
+use Rattle.tile_plan.specs.Plan.{TilePlan, IsPlan, parent, sibling, side}
 use Rattle.atomic_table.specs.Table.{turned, rest}
 use Rattle.tile_plan.specs.declared.site.Side.TheVariants as sides
 use Rattle.merge_board.specs.Fits.{Fits}
@@ -34,9 +34,9 @@ returns-in-Left-clause-halves c =
     let other : c.in-Some-Some.other ≡ c.requires.held.other = same_first c.turn.new.self.me.1 (rest c.turn.new.self.me.1) ((c.args.number, Some c.requires.held.own) ∷ (parent c.args.self.now.plan c.args.number, None) ∷ []) c.sibling-sibling.result (sibling c.args.self.now.plan c.args.number) c.exchange-other.result c.requires.held.other c.in-Some-Some.other c.exchange-other.ensures.2 s (search rules) in
     let own : c.in-Some-Some.own ≡ c.requires.held.own = same_first c.turn-2.new.self.me.1 (rest c.turn-2.new.self.me.1) ((parent c.args.self.now.plan c.args.number, None) ∷ (c.sibling-sibling.result, None) ∷ []) c.args.number c.args.number c.exchange-own.result c.requires.held.own c.in-Some-Some.own c.exchange-own.ensures.2 o (search rules) in
     let plan : IsPlan c.args.self.now.plan = search rules in
-    let side : side_of (weight c.args.self.now.plan c.args.number) ≡ sides.Left = subst (λ (q : TilePlan). side_of (weight q c.args.number) ≡ sides.Left) c.requires.plan (sym c.parent-parent.ensures.side ∙ c.in-Left.is) in
+    let on : side c.args.self.now.plan c.args.number ≡ sides.Left = subst (λ (q : TilePlan). side q c.args.number ≡ sides.Left) c.requires.plan (sym c.parent-parent.ensures.side ∙ c.in-Left.is) in
     let above : c.parent-parent.result.0 ≡ parent c.args.self.now.plan c.args.number = c.parent-parent.ensures.parent ∙ ap (λ (q : TilePlan). parent q c.args.number) c.requires.plan in
-    halves_left c.args.self.now.plan c.args.number c.parent-parent.result.0 c.in-Some-Some.own c.in-Some-Some.other plan c.requires.part c.requires.inner side above
+    halves_left c.args.self.now.plan c.args.number c.parent-parent.result.0 c.in-Some-Some.own c.in-Some-Some.other plan c.requires.part c.requires.inner on above
     (subst (λ (x : PartState). Fits c.args.self.now.plan c.args.number x) (sym own) c.requires.held.own_fits) (subst (λ (x : PartState). Fits c.args.self.now.plan (sibling c.args.self.now.plan c.args.number) x) (sym other) c.requires.held.other_fits)
 
 pub returns-in-Right-clause-halves : goal.returns-in-Right-clause-halves
@@ -49,7 +49,7 @@ returns-in-Right-clause-halves c =
     let other : c.in-Some-Some.other ≡ c.requires.held.other = same_first c.turn.new.self.me.1 (rest c.turn.new.self.me.1) ((c.args.number, Some c.requires.held.own) ∷ (parent c.args.self.now.plan c.args.number, None) ∷ []) c.sibling-sibling.result (sibling c.args.self.now.plan c.args.number) c.exchange-other.result c.requires.held.other c.in-Some-Some.other c.exchange-other.ensures.2 s (search rules) in
     let own : c.in-Some-Some.own ≡ c.requires.held.own = same_first c.turn-2.new.self.me.1 (rest c.turn-2.new.self.me.1) ((parent c.args.self.now.plan c.args.number, None) ∷ (c.sibling-sibling.result, None) ∷ []) c.args.number c.args.number c.exchange-own.result c.requires.held.own c.in-Some-Some.own c.exchange-own.ensures.2 o (search rules) in
     let plan : IsPlan c.args.self.now.plan = search rules in
-    let side : side_of (weight c.args.self.now.plan c.args.number) ≡ sides.Right = subst (λ (q : TilePlan). side_of (weight q c.args.number) ≡ sides.Right) c.requires.plan (sym c.parent-parent.ensures.side ∙ c.in-Right.is) in
+    let on : side c.args.self.now.plan c.args.number ≡ sides.Right = subst (λ (q : TilePlan). side q c.args.number ≡ sides.Right) c.requires.plan (sym c.parent-parent.ensures.side ∙ c.in-Right.is) in
     let above : c.parent-parent.result.0 ≡ parent c.args.self.now.plan c.args.number = c.parent-parent.ensures.parent ∙ ap (λ (q : TilePlan). parent q c.args.number) c.requires.plan in
-    halves_right c.args.self.now.plan c.args.number c.parent-parent.result.0 c.in-Some-Some.own c.in-Some-Some.other plan c.requires.part c.requires.inner side above
+    halves_right c.args.self.now.plan c.args.number c.parent-parent.result.0 c.in-Some-Some.own c.in-Some-Some.other plan c.requires.part c.requires.inner on above
     (subst (λ (x : PartState). Fits c.args.self.now.plan c.args.number x) (sym own) c.requires.held.own_fits) (subst (λ (x : PartState). Fits c.args.self.now.plan (sibling c.args.self.now.plan c.args.number) x) (sym other) c.requires.held.other_fits)

@@ -1,13 +1,16 @@
 use Rattle.std.proofs.Common.{◌∙◌, sym}
-use Rattle.node_region.proofs.Views.{cell-read, kept-read}
-use Rattle.node_region.proofs.PoolLaws.{used-none}
+use Rattle.node_region.proofs.PoolLaws.{used-covered, used-none}
 use Rattle.node_region.proofs.region.Region.entry.Goals as goal
 
+pub slot_of-slot-requires : goal.slot_of-slot-requires
+slot_of-slot-requires c = used-covered c.args.self.now c.args.id c.requires
+
 pub unreachable-requires : goal.unreachable-requires
-unreachable-requires c =
-    let read = cell-read c.self.inside _ c.args.id c.slot-slot.result (record { number = c.locate.ensures.number; within = c.locate.ensures.within; read = c.slot-slot.ensures }) in
-    used-none c.args.self.now c.args.id c.requires (rw (← c.self.view_is) (read ∙ sym c.cell.ensures ∙ c.in-None.is))
+unreachable-requires c = used-none c.args.self.now c.args.id c.requires (sym c.slot_of-slot.ensures.cell ∙ sym c.cell.ensures ∙ c.in-None.is)
 
 pub returns : goal.returns
-returns c = rw (← c.self.view_is)
-    (kept-read c.self.inside _ c.args.id c.slot-slot.result (record { number = c.locate.ensures.number; within = c.locate.ensures.within; read = c.slot-slot.ensures }) c.in-Some.cell _ (sym c.cell.ensures ∙ c.in-Some.is) c.hint.ensures)
+returns c = record {
+  cell = sym c.slot_of-slot.ensures.cell ∙ sym c.cell.ensures ∙ c.in-Some.is;
+  turn = sym c.slot_of-slot.ensures.turn;
+  hint = sym c.slot_of-slot.ensures.hint ∙ sym c.hint.ensures;
+}

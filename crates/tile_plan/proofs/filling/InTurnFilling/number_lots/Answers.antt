@@ -1,4 +1,4 @@
-use Rattle.std.proofs.Common.{ℕ, arith}
+use Rattle.std.proofs.Common.{arith}
 use Rattle.tile_plan.specs.Dealing.{IsLotOf}
 use Rattle.tile_plan.proofs.Filled.{filled_more}
 use Rattle.tile_plan.proofs.filling.InTurnFilling.number_lots.Goals as goal

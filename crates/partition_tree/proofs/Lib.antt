@@ -13,3 +13,4 @@ pub mod ListTree
 pub mod PlannedTree
 pub mod PlannedLots
 pub mod TestLemmas
+pub mod NearestStops

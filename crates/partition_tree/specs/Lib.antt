@@ -8,3 +8,4 @@ pub mod Planned
 pub mod TreeFields
 pub mod Report
 pub mod Turns
+pub mod NearestStops

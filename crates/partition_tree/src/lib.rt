@@ -11,6 +11,7 @@ mod laws;
 mod list;
 mod numbering;
 mod parents;
+mod passes;
 mod planned;
 mod report;
 mod tree;
@@ -20,6 +21,7 @@ pub use ancestors::Ancestors;
 pub use children::Children;
 pub use laws::{tree_is_a_forest, tree_under_other_names};
 pub use list::Ranked;
+pub use passes::{own_numbers, send_down};
 pub use report::{tree_pieces, write_tree};
 pub use tree::Tree;
 

@@ -3,7 +3,7 @@ ghost use Rattle.hg_base.specs.Zones.{keeps};
 ghost use Rattle.partition_tree.specs.Forest.{nodes, IsForest};
 ghost use Rattle.quasi_flat_zones.specs.Passes.{zone_numbers, AreMarked, AreNearest};
 
-use partition_tree::Tree;
+use partition_tree::{Tree, send_down};
 use std::alloc::{AllocError, Global};
 
 /// Which nodes the zones keep.
@@ -48,7 +48,16 @@ pub(crate) fn nearest_numbers(
     ensures nearest { IfOk result (λ numbers. AreNearest tree.now numbers.items) }
 {
     let mut numbers = zone_numbers(alloc, tree, marks)?;
-    send_down(tree, marks, &mut numbers);
+    send_down(
+        tree,
+        |i: u32|
+            requires { AreMarked tree.now marks.now × (i < nodes tree.now) }
+            ensures { result ≡ keeps tree.entry.now i }
+        {
+            keeps(tree, marks, i)
+        },
+        &mut numbers,
+    );
     Ok(numbers)
 }
 
@@ -68,17 +77,4 @@ fn zone_numbers(alloc: Global, tree: &Tree, marks: &[bool]) -> Result<Vec<u32>, 
         }
     }
     Ok(numbers)
-}
-
-// Gives each node that isn't kept its parent's number, from the root down.
-fn send_down(tree: &Tree, marks: &[bool], numbers: &mut [u32])
-    requires marks { AreMarked tree.now marks.now }
-    requires own { numbers.old ≡ zone_numbers tree.now }
-    ensures { AreNearest tree.now numbers.new }
-{
-    for i in (0..tree.nodes()).rev() {
-        if !keeps(tree, marks, i) {
-            numbers[i as usize] = numbers[tree.parent(i) as usize];
-        }
-    }
 }

@@ -6,8 +6,8 @@ use Rattle.std.specs.List.{range_with_len}
 use Rattle.hg_base.specs.Tree.{ParentTree}
 use Rattle.hg_base.specs.Levels.{is_above}
 use Rattle.hg_base.proofs.Passing.{passing}
-use Rattle.partition_tree.specs.Forest.{nodes, IsForest}
-use Rattle.partition_tree.proofs.ForestClimbs.{forest-leaves}
+use Rattle.partition_tree.specs.TreeLists.{nodes, IsWellFormed}
+use Rattle.partition_tree.proofs.WellFormed.{well_formed-leaves}
 use Rattle.attributes.specs.declared.gather.Operation.{Operation}
 use Rattle.attributes.specs.Gathering.{neutral, gathered, AreGathered, AreOfLeaves}
 use Rattle.attributes.proofs.Gathers.{gathered-agree, gathered-longer, gathered-fits, all-pass}
@@ -67,9 +67,9 @@ filled-fits op n m leaves values few a fits =
     subst (λ (k : ℕ). k < 2 ^ 64) (sym same) fits
 
 -- each node has the values of its leaves
-pub of-leaves : (op : Operation) (t : ParentTree) (leaves values sums : List ℕ) → IsForest t → AreFilled op t.leaves (nodes t) leaves values → gathered op (λ x. get_or leaves x 0) (range_with_len 0 t.leaves) < 2 ^ 64 →
+pub of-leaves : (op : Operation) (t : ParentTree) (leaves values sums : List ℕ) → IsWellFormed t → AreFilled op t.leaves (nodes t) leaves values → gathered op (λ x. get_or leaves x 0) (range_with_len 0 t.leaves) < 2 ^ 64 →
     AreGathered op t values sums → AreOfLeaves op t leaves sums
 of-leaves op t leaves values sums f a fits g = record {
   one_each = g.one_each;
-  each = λ i h. g.each i h ∙ filled-passing op t.leaves (nodes t) leaves values (is_above t i) (forest-leaves t f) a fits;
+  each = λ i h. g.each i h ∙ filled-passing op t.leaves (nodes t) leaves values (is_above t i) (well_formed-leaves t f) a fits;
 }

@@ -1,8 +1,7 @@
 pub mod Gathers
-pub mod Ups
+pub mod GatheredUp
 pub mod LeafValues
-pub mod Lights
+pub mod LightestEdges
 pub mod LowFloors
-pub mod Rows
 pub mod Totals
-pub mod Made
+pub mod AttributesOfGraph

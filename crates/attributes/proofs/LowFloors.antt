@@ -22,7 +22,7 @@ use Rattle.hg_base.proofs.FrontOnce.{leaf_or_made, leaf-alone, below-ends, ends-
 use Rattle.hg_base.proofs.Levels.{level-tree}
 use Rattle.hg_base.proofs.Meeting.{altitude-leaf, altitude-inner}
 use Rattle.partition_tree.proofs.TreeLemmas.{tree-up}
-use Rattle.attributes.specs.Attributes.{has_end, weights_at, least, floor, altitude_over}
+use Rattle.attributes.specs.Attributes.{is_end_of, weights_at, least, floor, altitude_over}
 use Rattle.attributes.proofs.Gathers.{least-low}
 
 -- a least number is no greater than any of the list
@@ -61,8 +61,8 @@ filter-some p (y ∷ ys) = elim (cases_Bool (p y)) [
 ]
 
 -- an edge at a vertex weighs no less than its floor
-floor-edge : (g : WeightedGraph) (x k : ℕ) (e : Edge) → slice_get g.edges k ≡ Some e → has_end x e ≡ true → floor g x ≤ e.w
-floor-edge g x k e at end = least-le (weights_at g x) e.w (in-mapped (λ (f : Edge). f.w) (filter (has_end x) g.edges) e (IsIn-filter (has_end x) e g.edges end (in-at g.edges k e at)))
+floor-edge : (g : WeightedGraph) (x k : ℕ) (e : Edge) → slice_get g.edges k ≡ Some e → is_end_of x e ≡ true → floor g x ≤ e.w
+floor-edge g x k e at end = least-le (weights_at g x) e.w (in-mapped (λ (f : Edge). f.w) (filter (is_end_of x) g.edges) e (IsIn-filter (is_end_of x) e g.edges end (in-at g.edges k e at)))
 
 -- the edge of the graph that a ranked one is
 pub record IsRankedEdge (g : WeightedGraph) (f : ListedEdge) : Type 0 where
@@ -92,7 +92,7 @@ ranked-edge g f i =
 floor-ranked : (g : WeightedGraph) (f : ListedEdge) → IsIn f (ranked g) → (x : ℕ) → (f.u ≡ x) ⊎ (f.v ≡ x) → floor g x ≤ f.weight
 floor-ranked g f i x end =
     let r = ranked-edge g f i in
-    let has : has_end x r.edge ≡ true = elim end [
+    let has : is_end_of x r.edge ≡ true = elim end [
       | inl first ↦ or_left (r.edge.u == x) (r.edge.v == x) (eq-eqb r.edge.u x (sym r.u ∙ first))
       | inr second ↦ or_right (r.edge.u == x) (r.edge.v == x) (eq-eqb r.edge.v x (sym r.v ∙ second))
     ] in
@@ -141,14 +141,14 @@ floor-made g ends e i x h a =
     ]
 
 -- an edge at a vertex leads to another vertex
-other-end : (g : WeightedGraph) (x : ℕ) (e : Edge) → JoinsTwo g.n e → has_end x e ≡ true → (y : ℕ) × ((y < g.n) × ((x ≡ y → ⊥) × (((e.u ≡ x) × (e.v ≡ y)) ⊎ ((e.v ≡ x) × (e.u ≡ y)))))
+other-end : (g : WeightedGraph) (x : ℕ) (e : Edge) → JoinsTwo g.n e → is_end_of x e ≡ true → (y : ℕ) × ((y < g.n) × ((x ≡ y → ⊥) × (((e.u ≡ x) × (e.v ≡ y)) ⊎ ((e.v ≡ x) × (e.u ≡ y)))))
 other-end g x e two end = elim (or_cases (e.u == x) (e.v == x) end) [
   | inl first ↦ let u : e.u ≡ x = eqb-true e.u x first in (e.v, (two.v, (λ q. two.apart (u ∙ q), inl (u, refl))))
   | inr second ↦ let v : e.v ≡ x = eqb-true e.v x second in (e.u, (two.u, (λ q. two.apart (sym q ∙ sym v), inr (v, refl))))
 ]
 
 -- no edge is at a leaf that is a root
-root-alone : (g : WeightedGraph) → All (JoinsTwo g.n) g.edges → (x : ℕ) → x < g.n → parent (graph_tree g) x ≡ x → (k : ℕ) (e : Edge) → slice_get g.edges k ≡ Some e → has_end x e ≡ true → ⊥
+root-alone : (g : WeightedGraph) → All (JoinsTwo g.n) g.edges → (x : ℕ) → x < g.n → parent (graph_tree g) x ≡ x → (k : ℕ) (e : Edge) → slice_get g.edges k ≡ Some e → is_end_of x e ≡ true → ⊥
 root-alone g ends x h root k e at end =
     let apart = AreApart-ranked g in
     let levels = level-tree g.n (ranked g) apart (within-ranked g ends) (AreByWeight-ranked g) in
@@ -171,7 +171,7 @@ root-alone g ends x h root k e at end =
 
 -- so its floor is 0
 floor-root : (g : WeightedGraph) → All (JoinsTwo g.n) g.edges → (x : ℕ) → x < g.n → parent (graph_tree g) x ≡ x → floor g x ≡ 0
-floor-root g ends x h root = elim (filter-some (has_end x) g.edges) [
+floor-root g ends x h root = elim (filter-some (is_end_of x) g.edges) [
   | inl none' ↦ ap (λ (es : List Edge). least (map (λ e. e.w) es)) none'
   | inr some ↦ absurd (root-alone g ends x h root some.0 some.1.0 some.1.1.0 some.1.1.1)
 ]
@@ -197,7 +197,7 @@ floors-low g ends i x hi hx a =
 
 -- floors are weights, or 0, and fit 32 bits where the weights do
 pub floor-small : (g : WeightedGraph) → All (λ (e : Edge). e.w < 2 ^ 32) g.edges → (x : ℕ) → floor g x < 2 ^ 32
-floor-small g small x = elim (filter-some (has_end x) g.edges) [
+floor-small g small x = elim (filter-some (is_end_of x) g.edges) [
   | inl none' ↦ let flat : floor g x ≡ 0 = ap (λ (es : List Edge). least (map (λ e. e.w) es)) none' in omega (arith, flat)
   | inr some ↦
       let k = some.0 in

@@ -15,20 +15,20 @@ use Rattle.hg_base.proofs.Members.{IsIn-filter, IsIn-kept}
 use Rattle.hg_base.proofs.Ranked.{AreApart-ranked, AreByWeight-ranked}
 use Rattle.hg_base.proofs.Levels.{level-tree}
 use Rattle.hg_base.proofs.Tops.{is_above-from, is_above-to}
-use Rattle.partition_tree.specs.Forest.{nodes, IsForest}
-use Rattle.partition_tree.proofs.TreeLemmas.{tree-forest}
-use Rattle.partition_tree.proofs.ForestClimbs.{forest-climbs, forest-leaves}
+use Rattle.partition_tree.specs.TreeLists.{nodes, IsWellFormed}
+use Rattle.partition_tree.proofs.TreeLemmas.{tree-well_formed}
+use Rattle.partition_tree.proofs.WellFormed.{well_formed-climbs, well_formed-leaves}
 use Rattle.attributes.specs.declared.gather.Operation.TheVariants as operations
 use Rattle.attributes.specs.Gathering.{combined, neutral, gathered, AreOfLeaves}
 use Rattle.attributes.specs.Attributes.{area, floor, least, vertices, area_of, volume_under, altitude_over}
 use Rattle.attributes.specs.Floors.{IsRead}
 use Rattle.attributes.proofs.Gathers.{gathered-agree}
 use Rattle.attributes.proofs.LowFloors.{floors-low, altitudes-small, within-ranked, least-le, in-mapped}
-use Rattle.attributes.proofs.Rows.{in-range, range-in}
+use Rattle.partition_tree.proofs.ListTests.{range-to, range-from}
 
 -- what the tree of a graph keeps to
 pub record IsTreeOf (g : WeightedGraph) (t : ParentTree) : Type 0 where
-  pub forest : IsForest t
+  pub well_formed : IsWellFormed t
   pub leaves : t.leaves ≡ g.n
   pub some_leaf : (i : ℕ) → i < nodes t → (x : ℕ) × ((x < t.leaves) × IsAbove t i x)
   pub low : (i x : ℕ) → i < nodes t → x < t.leaves → IsAbove t i x → floor g x ≤ altitude_over t i
@@ -39,7 +39,7 @@ pub tree-of_graph : (g : WeightedGraph) (t : ParentTree) → t ≡ graph_tree g 
 tree-of_graph g t same read =
     let ends = read.edges.ends in
     subst (IsTreeOf g) (sym same) (record {
-      forest = tree-forest g.n (ranked g) read.some_vertex read.vertices (AreApart-ranked g) (within-ranked g ends);
+      well_formed = tree-well_formed g.n (ranked g) read.some_vertex read.vertices (AreApart-ranked g) (within-ranked g ends);
       leaves = refl;
       some_leaf = (level-tree g.n (ranked g) (AreApart-ranked g) (within-ranked g ends) (AreByWeight-ranked g)).some_leaf;
       low = λ i x hi hx a. floors-low g ends i x hi hx a;
@@ -50,13 +50,13 @@ tree-of_graph g t same read =
 pub vertex-in : (t : ParentTree) (i x : ℕ) → IsIn x (vertices t i) → (x < t.leaves) × IsAbove t i x
 vertex-in t i x m =
     let kept = IsIn-kept (is_above t i) x (range_with_len 0 t.leaves) m in
-    (let low : x < 0 + t.leaves = in-range 0 t.leaves x kept.1 in omega (arith, low), is_above-to t i x kept.0)
+    (let low : x < 0 + t.leaves = (range-to 0 t.leaves x kept.1).1 in omega (arith, low), is_above-to t i x kept.0)
 
 -- a node has a vertex
-vertex-some : (t : ParentTree) → IsForest t → (i x : ℕ) → x < t.leaves → IsAbove t i x → IsIn x (vertices t i)
+vertex-some : (t : ParentTree) → IsWellFormed t → (i x : ℕ) → x < t.leaves → IsAbove t i x → IsIn x (vertices t i)
 vertex-some t f i x h a =
-    let few = forest-leaves t f in
-    IsIn-filter (is_above t i) x (range_with_len 0 t.leaves) (is_above-from t (forest-climbs t f) i x (omega arith) a) (range-in 0 t.leaves x (omega arith) (omega arith))
+    let few = well_formed-leaves t f in
+    IsIn-filter (is_above t i) x (range_with_len 0 t.leaves) (is_above-from t (well_formed-climbs t f) i x (omega arith) a) (range-from 0 t.leaves x (omega arith) (omega arith))
 
 -- the floors of a node's vertices are no higher than the altitude over it
 pub floors-in : (g : WeightedGraph) (t : ParentTree) → IsTreeOf g t → (i : ℕ) → i < nodes t → (x : ℕ) → IsIn x (vertices t i) → floor g x ≤ altitude_over t i
@@ -93,18 +93,18 @@ lowest-is g t k values lowest a made i h =
     a.each i h
     ∙ gathered-agree operations.Least (λ x. get_or values x 0) (floor g) (is_above t i) (is_above t i) t.leaves (λ x l. refl)
     (λ x l. ap (λ (xs : List ℕ). get_or xs x 0) made ∙ get_or-map-range_with_len (floor g) 0 t.leaves x x 0 l (omega arith))
-    ∙ least-all (map (floor g) (vertices t i)) (floor g some.0) (in-mapped (floor g) (vertices t i) some.0 (vertex-some t k.forest i some.0 some.1.0 some.1.1))
+    ∙ least-all (map (floor g) (vertices t i)) (floor g some.0) (in-mapped (floor g) (vertices t i) some.0 (vertex-some t k.well_formed i some.0 some.1.0 some.1.1))
     (λ j m.
     let x = in-mapped_back (floor g) (vertices t i) j m in
     let low : floor g x.0 ≤ altitude_over t i = floors-in g t k i h x.0 x.1.0 in
-    let small : altitude_over t i < 2 ^ 32 = k.small (parent t i) (k.forest.within i h) in
+    let small : altitude_over t i < 2 ^ 32 = k.small (parent t i) (k.well_formed.within i h) in
     omega (arith, low, small, x.1.1))
 
 -- the lowest floor is no higher than the altitude over the node
 pub lowest-low : (g : WeightedGraph) (t : ParentTree) → IsTreeOf g t → (i : ℕ) → i < nodes t → least (map (floor g) (vertices t i)) ≤ altitude_over t i
 lowest-low g t k i h =
     let some = k.some_leaf i h in
-    let m = vertex-some t k.forest i some.0 some.1.0 some.1.1 in
+    let m = vertex-some t k.well_formed i some.0 some.1.0 some.1.1 in
     let low : least (map (floor g) (vertices t i)) ≤ floor g some.0 = least-le (map (floor g) (vertices t i)) (floor g some.0) (in-mapped (floor g) (vertices t i) some.0 m) in
     let under : floor g some.0 ≤ altitude_over t i = floors-in g t k i h some.0 m in
     omega (arith, low, under)

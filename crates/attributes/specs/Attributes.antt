@@ -7,12 +7,12 @@ use Rattle.hg_base.specs.Tree.{ParentTree, parent, altitude, graph_tree}
 use Rattle.hg_base.specs.Levels.{is_above}
 
 -- x is an end of the edge
-abbrev pub has_end : ℕ → Edge → Bool
-has_end x e = (e.u == x) || (e.v == x)
+abbrev pub is_end_of : ℕ → Edge → Bool
+is_end_of x e = (e.u == x) || (e.v == x)
 
 -- the weights of the edges at vertex x
 abbrev pub weights_at : WeightedGraph → ℕ → List ℕ
-weights_at g x = map (λ e. e.w) (filter (has_end x) g.edges)
+weights_at g x = map (λ e. e.w) (filter (is_end_of x) g.edges)
 
 -- the least number of a list, or 0 where it is empty
 abbrev pub least : List ℕ → ℕ

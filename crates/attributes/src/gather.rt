@@ -1,6 +1,6 @@
 ghost use Rattle.std.specs.Prelude.{◌≡◌, ℕ, ◌<◌, ◌≤◌, ◌^◌, length, slice_index, IfOk};
 ghost use Rattle.std.specs.List.{range_with_len};
-ghost use Rattle.partition_tree.specs.Forest.{nodes};
+ghost use Rattle.partition_tree.specs.TreeLists.{nodes};
 ghost use Rattle.attributes.specs.Gathering.{combined, neutral, gathered, AreGathered, AreOfLeaves};
 
 use partition_tree::Tree;

@@ -1,5 +1,5 @@
 ghost use Rattle.std.specs.Prelude.{◌≡◌, length, IfOk};
-ghost use Rattle.attributes.specs.Report.{attributes_report, node_line};
+ghost use Rattle.attributes.specs.Report.{attributes_report, attributes_line};
 
 use crate::table::Attributes;
 use hg_base::OutOfMemory;
@@ -39,7 +39,7 @@ struct NodeLines<'a> {
 impl Lines for NodeLines<'_> {
     ghost count = { λ lines. length lines.attributes.now.areas };
 
-    ghost line = { λ lines i. node_line lines.attributes.now i };
+    ghost line = { λ lines i. attributes_line lines.attributes.now i };
 
     fn len(&self) -> usize {
         self.attributes.nodes() as usize

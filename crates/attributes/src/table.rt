@@ -1,6 +1,6 @@
 ghost use Rattle.std.specs.Prelude.{◌≡◌, ℕ, ◌*◌, ◌-◌, ◌^◌, ◌<◌, ◌≤◌, length, map, slice_get, slice_index, Some, IfOk};
 ghost use Rattle.hg_base.specs.Tree.{graph_tree};
-ghost use Rattle.partition_tree.specs.Forest.{nodes};
+ghost use Rattle.partition_tree.specs.TreeLists.{nodes};
 ghost use Rattle.attributes.specs.Attributes.{attributes_of, altitude_over, node_numbers};
 
 use crate::sums::NodeSums;

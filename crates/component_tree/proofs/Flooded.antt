@@ -12,10 +12,10 @@ use Rattle.hg_base.proofs.Levels.{level-tree}
 use Rattle.hg_base.proofs.Meeting.{altitude-inner, altitude-leaf}
 use Rattle.hg_base.proofs.Nodes.{length-parents}
 use Rattle.hg_base.proofs.FrontOnce.{leaf_or_made, below-ends}
-use Rattle.partition_tree.specs.Forest.{IsForest}
-use Rattle.partition_tree.proofs.ForestClimbs.{forest-climbs, forest-leaves}
+use Rattle.partition_tree.specs.TreeLists.{IsWellFormed}
+use Rattle.partition_tree.proofs.WellFormed.{well_formed-climbs, well_formed-leaves}
 use Rattle.partition_tree.proofs.TreeLemmas.{tree-rises}
-use Rattle.component_tree.specs.Passes.{AreFloodEdges}
+use Rattle.component_tree.specs.NodeComponents.{AreFloodEdges}
 use Rattle.component_tree.proofs.Reach.{AreGreaterEnds}
 use Rattle.component_tree.proofs.Floods.{IsFlood}
 
@@ -39,11 +39,11 @@ top-of f n s apart within weights i inner hi =
           | inr v ↦ (e.v, (w.1, (subst (λ (j : ℕ). IsAbove (tree_of n s) j e.v) at ends.1, sym v ∙ sym high)))
         ]
 
-pub flooded : (f : ℕ → ℕ) (n : ℕ) (s : EdgeList) (levels : List ℕ) → IsForest (tree_of n s) → AreApart s → AreWithin n s → AreByWeight s → AreGreaterEnds f s →
+pub flooded : (f : ℕ → ℕ) (n : ℕ) (s : EdgeList) (levels : List ℕ) → IsWellFormed (tree_of n s) → AreApart s → AreWithin n s → AreByWeight s → AreGreaterEnds f s →
     ((x : ℕ) → x < n → get_or levels x 0 ≡ f x) → ((i : ℕ) → n ≤ i → i < length (tree_of n s).parents → get_or levels i 0 ≡ altitude (tree_of n s) i) → IsFlood (tree_of n s) f s levels
 flooded f n s levels forest apart within by weights leaf made = record {
-  climbs = forest-climbs (tree_of n s) forest;
-  few = forest-leaves (tree_of n s) forest;
+  climbs = well_formed-climbs (tree_of n s) forest;
+  few = well_formed-leaves (tree_of n s) forest;
   inner = forest.inner;
   rise = tree-rises n s apart by;
   tree = level-tree n s apart within by;
@@ -55,11 +55,11 @@ flooded f n s levels forest apart within by weights leaf made = record {
 }
 
 -- so for a tree that is that of the edges
-pub flooded-tree : (f : ℕ → ℕ) (t : ParentTree) (s : EdgeList) (levels : List ℕ) → IsForest t → AreFloodEdges f t.leaves s → t ≡ tree_of t.leaves s →
+pub flooded-tree : (f : ℕ → ℕ) (t : ParentTree) (s : EdgeList) (levels : List ℕ) → IsWellFormed t → AreFloodEdges f t.leaves s → t ≡ tree_of t.leaves s →
     ((x : ℕ) → x < t.leaves → get_or levels x 0 ≡ f x) → ((i : ℕ) → t.leaves ≤ i → i < length t.parents → get_or levels i 0 ≡ altitude t i) → IsFlood t f s levels
 flooded-tree f t s levels forest e same leaf made =
     subst (λ (u : ParentTree). IsFlood u f s levels) (sym same)
-    (flooded f t.leaves s levels (subst IsForest same forest) e.apart e.within e.by_weight e.weights leaf
+    (flooded f t.leaves s levels (subst IsWellFormed same forest) e.apart e.within e.by_weight e.weights leaf
     (subst (λ (u : ParentTree). (i : ℕ) → t.leaves ≤ i → i < length u.parents → get_or levels i 0 ≡ altitude u i) same made))
 
 -- altitudes are weights

@@ -8,7 +8,7 @@ use Rattle.hg_base.specs.Levels.{IsClimbing, AltitudesRise, IsLevelTree}
 use Rattle.hg_base.specs.Saliency.{at_most}
 use Rattle.hg_base.proofs.Climbs.{ancestor-root, above-on, above-next, above-either, above-within, above-rises, ancestor-within}
 use Rattle.hg_base.proofs.Weights.{Joined-heavier}
-use Rattle.component_tree.specs.Passes.{is_component}
+use Rattle.component_tree.specs.NodeComponents.{is_component}
 use Rattle.component_tree.proofs.Reach.{AreGreaterEnds, first-step, light-value}
 
 -- the level of a node

@@ -7,7 +7,7 @@ use Rattle.hg_base.specs.Edges.{EdgeList, IsIn, component, joined, is_least}
 use Rattle.hg_base.proofs.Members.{IsIn-filter, IsIn-kept}
 use Rattle.component_tree.specs.declared.side.Side.TheVariants.{Min}
 use Rattle.component_tree.specs.Components.{inside, Includes}
-use Rattle.component_tree.specs.MinTree.{Head, is_head, heads_at, heads, greatest_value, has, includes}
+use Rattle.component_tree.specs.MinTree.{Head, is_component_head, heads_at, heads, greatest_value, has, includes}
 use Rattle.component_tree.proofs.Members.{IsIn-range, IsIn-from}
 
 -- what is in a mapped list is some value
@@ -166,14 +166,14 @@ pub record IsHead (f : ℕ → ℕ) (n : ℕ) (s : EdgeList) (t x : ℕ) : Type 
   pub least : is_least (joined (inside Min f s t)) x ≡ true
   pub met : list_any (λ y. f y == t) (component n (inside Min f s t) x) ≡ true
 
-pub head-parts : (f : ℕ → ℕ) (n : ℕ) (s : EdgeList) (t x : ℕ) → is_head f n s t x ≡ true → IsHead f n s t x
+pub head-parts : (f : ℕ → ℕ) (n : ℕ) (s : EdgeList) (t x : ℕ) → is_component_head f n s t x ≡ true → IsHead f n s t x
 head-parts f n s t x h =
     let r = joined (inside Min f s t) in
     let p = and_parts (nat_le (f x) t) (is_least r x && list_any (λ y. f y == t) (component n (inside Min f s t) x)) h in
     let q = and_parts (is_least r x) (list_any (λ y. f y == t) (component n (inside Min f s t) x)) p.1 in
     record { low = leb-true (f x) t p.0; least = q.0; met = q.1 }
 
-pub parts-head : (f : ℕ → ℕ) (n : ℕ) (s : EdgeList) (t x : ℕ) → IsHead f n s t x → is_head f n s t x ≡ true
+pub parts-head : (f : ℕ → ℕ) (n : ℕ) (s : EdgeList) (t x : ℕ) → IsHead f n s t x → is_component_head f n s t x ≡ true
 parts-head f n s t x h = and_from _ _ (le-leb (f x) t h.low) (and_from _ _ h.least h.met)
 
 module _ (f : ℕ → ℕ) (n : ℕ) (s : EdgeList) where
@@ -200,12 +200,12 @@ module _ (f : ℕ → ℕ) (n : ℕ) (s : EdgeList) where
   levels-order : (a m : ℕ) → InOrder (flat_map (heads_at f n s) (range_with_len a m))
   levels-order a zero = tt
   levels-order a (suc m) =
-      order-append (heads_at f n s a) (flat_map (heads_at f n s) (range_with_len (a + 1) m)) (row-order (is_head f n s a) a 0 n) (levels-order (a + 1) m)
+      order-append (heads_at f n s a) (flat_map (heads_at f n s) (range_with_len (a + 1) m)) (row-order (is_component_head f n s a) a 0 n) (levels-order (a + 1) m)
       (λ x y i j. (
-      let r = row-level a (filter (is_head f n s a) (range_with_len 0 n)) x i in
+      let r = row-level a (filter (is_component_head f n s a) (range_with_len 0 n)) x i in
       let q = IsIn-flat (heads_at f n s) (range_with_len (a + 1) m) y j in
       let k = IsIn-range (a + 1) m q.0 q.1.0 in
-      let v = row-level q.0 (filter (is_head f n s q.0) (range_with_len 0 n)) y q.1.1 in
+      let v = row-level q.0 (filter (is_component_head f n s q.0) (range_with_len 0 n)) y q.1.1 in
       let low : a + 1 ≤ q.0 = k.low in
       inl (omega (arith, r.0, v.0))))
 
@@ -214,13 +214,13 @@ module _ (f : ℕ → ℕ) (n : ℕ) (s : EdgeList) where
   heads-order = levels-order 0 (suc (greatest_value f n))
 
   -- a node: its least vertex is one, and passes at its level
-  pub head-in : (h : Head) → IsIn h (heads f n s) → (h.vertex < n) × (is_head f n s h.level h.vertex ≡ true)
+  pub head-in : (h : Head) → IsIn h (heads f n s) → (h.vertex < n) × (is_component_head f n s h.level h.vertex ≡ true)
   head-in h i =
       let q = IsIn-flat (heads_at f n s) (range_with_len 0 (suc (greatest_value f n))) h i in
-      let v = row-level q.0 (filter (is_head f n s q.0) (range_with_len 0 n)) h q.1.1 in
-      let k = IsIn-kept (is_head f n s q.0) h.vertex (range_with_len 0 n) v.1 in
+      let v = row-level q.0 (filter (is_component_head f n s q.0) (range_with_len 0 n)) h q.1.1 in
+      let k = IsIn-kept (is_component_head f n s q.0) h.vertex (range_with_len 0 n) v.1 in
       let low : h.vertex < 0 + n = (IsIn-range 0 n h.vertex k.1).high in
-      (omega arith, subst (λ (t : ℕ). is_head f n s t h.vertex ≡ true) (sym v.0) k.0)
+      (omega arith, subst (λ (t : ℕ). is_component_head f n s t h.vertex ≡ true) (sym v.0) k.0)
 
   grows : (m : ℕ) (xs : List ℕ) → m ≤ fold max m xs
   grows m [] = omega arith
@@ -231,12 +231,12 @@ module _ (f : ℕ → ℕ) (n : ℕ) (s : EdgeList) where
   greatest-in m x (y ∷ xs) (inl e) = let r = grows (max m y) xs in omega (arith, r, e)
   greatest-in m x (y ∷ xs) (inr i) = greatest-in (max m y) x xs i
 
-  pub in-head : (t x : ℕ) → x < n → is_head f n s t x ≡ true → IsIn (record { level = t; vertex = x }) (heads f n s)
+  pub in-head : (t x : ℕ) → x < n → is_component_head f n s t x ≡ true → IsIn (record { level = t; vertex = x }) (heads f n s)
   in-head t x h is =
       flat-in (heads_at f n s) (range_with_len 0 (suc (greatest_value f n))) t (record { level = t; vertex = x })
       (IsIn-from 0 (suc (greatest_value f n)) t (omega arith) (omega (arith, low)))
-      (map-in {Y = Head} (λ y. record { level = t; vertex = y }) (filter (is_head f n s t) (range_with_len 0 n)) x
-      (IsIn-filter (is_head f n s t) x (range_with_len 0 n) is (IsIn-from 0 n x (omega arith) (omega arith))))
+      (map-in {Y = Head} (λ y. record { level = t; vertex = y }) (filter (is_component_head f n s t) (range_with_len 0 n)) x
+      (IsIn-filter (is_component_head f n s t) x (range_with_len 0 n) is (IsIn-from 0 n x (omega arith) (omega arith))))
     where
       low : t ≤ greatest_value f n
       low =

@@ -8,7 +8,7 @@ use Rattle.std.proofs.lemmas.List.FromFn.{length-range_with_len, get_or-range_wi
 use Rattle.hg_base.specs.Tree.{ParentTree, parent, ancestor, IsAbove}
 use Rattle.hg_base.specs.Levels.{IsClimbing}
 use Rattle.hg_base.proofs.Climbs.{above-on, ancestor-within}
-use Rattle.component_tree.specs.Passes.{HasLeaves, AreLeasts}
+use Rattle.component_tree.specs.NodeComponents.{HasLeaves, AreLeasts}
 
 -- what the nodes before i have sent up
 pub record AreLeastsTo (t : ParentTree) (i : ℕ) (leasts : List ℕ) : Type 0 where

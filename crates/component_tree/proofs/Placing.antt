@@ -4,11 +4,11 @@ use Rattle.std.proofs.lemmas.Bool.{cases_eq, cases_Bool}
 use Rattle.std.proofs.lemmas.List.{get_or-set_same, get_or-set_other}
 use Rattle.hg_base.specs.Tree.{ParentTree, parent, IsAbove}
 use Rattle.hg_base.specs.Levels.{IsClimbing}
-use Rattle.partition_tree.specs.Forest.{nodes}
+use Rattle.partition_tree.specs.TreeLists.{nodes}
 use Rattle.partition_tree.specs.NearestStops.{StopsAt, IsNearestStop, AreOfStops}
 use Rattle.partition_tree.proofs.NearestStops.{stop-induction, stop-within}
 use Rattle.component_tree.specs.declared.nodes.Component.{Component}
-use Rattle.component_tree.specs.Passes.{is_component, component_at, AreComponents, AreOwnPlaces, ArePlaces, IsNearestPlace}
+use Rattle.component_tree.specs.NodeComponents.{is_component, component_at, AreComponents, AreOwnPlaces, ArePlaces, IsNearestPlace}
 use Rattle.component_tree.proofs.Floods.{component-none}
 
 -- the first k components have their places at their nodes

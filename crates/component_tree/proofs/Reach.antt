@@ -9,7 +9,7 @@ use Rattle.hg_base.proofs.Members.{IsIn-filter, IsIn-kept}
 use Rattle.hg_base.proofs.Walks.{joined-walk, walk-among, Joined-joined}
 use Rattle.component_tree.specs.declared.side.Side.TheVariants.{Min}
 use Rattle.component_tree.specs.Components.{inside}
-pub use Rattle.component_tree.specs.Passes.{IsGreaterEnd, AreGreaterEnds}
+pub use Rattle.component_tree.specs.NodeComponents.{IsGreaterEnd, AreGreaterEnds}
 
 -- the edges inside a level are those of weight at most it
 light-inside : (f : ℕ → ℕ) (s : EdgeList) (k : ℕ) → AreGreaterEnds f s → (e : ListedEdge) → IsIn e (at_most s k) → IsIn e (inside Min f s k)

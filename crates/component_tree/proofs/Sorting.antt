@@ -18,7 +18,7 @@ use Rattle.hg_base.specs.Tree.{ParentTree}
 use Rattle.hg_base.proofs.Nodes.{slice_get-mapped}
 use Rattle.hg_base.proofs.Passing.{passing, passing-at, passing-index, length-passing, count_below-most, count_below-rises}
 use Rattle.component_tree.specs.declared.nodes.Component.{Component}
-use Rattle.component_tree.specs.Passes.{is_component, component_at, component_of, IsNoLater, AreComponents}
+use Rattle.component_tree.specs.NodeComponents.{is_component, component_at, component_of, IsNoLater, AreComponents}
 
 -- the order of components: by level, then by least vertex, then by node
 abbrev pub component_cmp : Component → Component → Ordering

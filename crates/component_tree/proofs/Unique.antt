@@ -12,7 +12,7 @@ use Rattle.hg_base.proofs.Leasts.{map-agree}
 use Rattle.hg_base.proofs.Passing.{passing}
 use Rattle.component_tree.specs.declared.side.Side.TheVariants.{Min}
 use Rattle.component_tree.specs.Components.{ComponentLists, IsComponentNode, IsComponentTree, Includes, inside, parent_of, level_of}
-use Rattle.component_tree.specs.MinTree.{Head, is_head, heads, head_at, vertices_of, has, includes, leaf_place, parent_place, min_tree}
+use Rattle.component_tree.specs.MinTree.{Head, is_component_head, heads, head_at, vertices_of, has, includes, leaf_place, parent_place, min_tree}
 use Rattle.component_tree.proofs.Members.{Passes, IsIn-range, IsIn-from, IsIn-passing, passing-in, passing-agree, passing-first}
 use Rattle.component_tree.proofs.Sinking.{sunk, reach-in, reach-row}
 use Rattle.component_tree.proofs.Heads.{IsIn-map, map-in, any-in, in-any, has-in, in-has, includes-from, includes-to, find-is, find-none, InOrder, order-one, order-values, IsHead, head-parts, parts-head, heads-order, head-in, in-head}
@@ -141,7 +141,7 @@ module _ (f : ℕ → ℕ) (n : ℕ) (s : EdgeList) (w : AreWithin n s) (tree : 
   keys : List Head
   keys = map key (range_with_len 0 count)
 
-  is-head : (k : ℕ) → k < count → is_head f n s (lv k) (ft k) ≡ true
+  is-head : (k : ℕ) → k < count → is_component_head f n s (lv k) (ft k) ≡ true
   is-head k h =
       let o = own k h in
       let m = c.reached (n + k) (node k h) in
@@ -185,7 +185,7 @@ module _ (f : ℕ → ℕ) (n : ℕ) (s : EdgeList) (w : AreWithin n s) (tree : 
   unfolding keys key
   heads-in h i = of (at h.level h.vertex hd.0 q.low)
     where
-      hd : (h.vertex < n) × (is_head f n s h.level h.vertex ≡ true)
+      hd : (h.vertex < n) × (is_component_head f n s h.level h.vertex ≡ true)
       hd = head-in f n s h i
 
       q : IsHead f n s h.level h.vertex

@@ -5,4 +5,4 @@ pub mod Values
 pub mod ValuesFields
 pub mod TreeFields
 pub mod Report
-pub mod Passes
+pub mod NodeComponents

@@ -18,12 +18,12 @@ abbrev pub vertices_of : (ℕ → ℕ) → ℕ → EdgeList → Head → List �
 vertices_of f n s h = component n (inside Min f s h.level) h.vertex
 
 -- x is the least vertex of a component at level t in which some vertex has the value t
-abbrev pub is_head : (ℕ → ℕ) → ℕ → EdgeList → ℕ → ℕ → Bool
-is_head f n s t x = nat_le (f x) t && (is_least (joined (inside Min f s t)) x && list_any (λ y. f y == t) (component n (inside Min f s t) x))
+abbrev pub is_component_head : (ℕ → ℕ) → ℕ → EdgeList → ℕ → ℕ → Bool
+is_component_head f n s t x = nat_le (f x) t && (is_least (joined (inside Min f s t)) x && list_any (λ y. f y == t) (component n (inside Min f s t) x))
 
 -- the nodes of level t, by least vertex
 abbrev pub heads_at : (ℕ → ℕ) → ℕ → EdgeList → ℕ → List Head
-heads_at f n s t = map (λ x. record { level = t; vertex = x }) (filter (is_head f n s t) (range_with_len 0 n))
+heads_at f n s t = map (λ x. record { level = t; vertex = x }) (filter (is_component_head f n s t) (range_with_len 0 n))
 
 -- the greatest value
 abbrev pub greatest_value : (ℕ → ℕ) → ℕ → ℕ

@@ -9,7 +9,7 @@ ghost use Rattle.component_tree.specs.Components.{IsComponentTree};
 ghost use Rattle.component_tree.specs.MinTree.{turned, value_at, component_tree_of};
 ghost use Rattle.component_tree.specs.Values.{AreValues};
 ghost use Rattle.component_tree.specs.Weighed.{weighed_graph, IsWeighed};
-ghost use Rattle.component_tree.specs.Passes.{ArePlaced, leaf_parent, component_parent, HasLeaves, AreFloodEdges, IsTurnedTree};
+ghost use Rattle.component_tree.specs.NodeComponents.{ArePlaced, leaf_parent, component_parent, HasLeaves, AreFloodEdges, IsTurnedTree};
 
 use crate::nodes::{Component, components, leasts, levels, places};
 use crate::side::{Side, turned};

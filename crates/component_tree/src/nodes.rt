@@ -1,8 +1,8 @@
 ghost use Rattle.std.specs.Prelude.{◌≡◌, ℕ, ◌<◌, ◌≤◌, ◌-◌, ◌++◌, List, length, map, filter, IfOk, OnOk};
 ghost use Rattle.std.specs.List.{range_with_len};
 ghost use Rattle.hg_base.specs.Tree.{altitude};
-ghost use Rattle.partition_tree.specs.Forest.{nodes, IsForest};
-ghost use Rattle.component_tree.specs.Passes.{levels_in, is_component, HasLeaves, AreLeasts, component_of, AreComponents, AreOwnPlaces, ArePlaces};
+ghost use Rattle.partition_tree.specs.TreeLists.{nodes, IsWellFormed};
+ghost use Rattle.component_tree.specs.NodeComponents.{levels_in, is_component, HasLeaves, AreLeasts, component_of, AreComponents, AreOwnPlaces, ArePlaces};
 
 use crate::side::{Side, turned};
 use crate::values::Values;
@@ -91,7 +91,7 @@ fn by_node(
 ) -> Result<Vec<Component>, AllocError>
     requires levels { length levels.now ≡ nodes tree.now }
     requires leasts { length leasts.now ≡ nodes tree.now }
-    ensures forest { IfOk result (λ list. IsForest tree.now) }
+    ensures well_formed { IfOk result (λ list. IsWellFormed tree.now) }
     ensures list { IfOk result (λ list. list.items ≡ map (component_of levels.now leasts.now) (filter (is_component tree.now levels.now) (range_with_len 0 (nodes tree.now)))) }
 {
     let mut list = Vec::new(alloc);
@@ -116,7 +116,7 @@ pub(crate) fn components(
 ) -> Result<Vec<Component>, AllocError>
     requires levels { length levels.now ≡ nodes tree.now }
     requires leasts { length leasts.now ≡ nodes tree.now }
-    ensures forest { IfOk result (λ list. IsForest tree.now) }
+    ensures well_formed { IfOk result (λ list. IsWellFormed tree.now) }
     ensures list { IfOk result (λ list. AreComponents tree.now levels.now leasts.now list.items) }
 {
     let mut list = by_node(alloc, tree, levels, leasts)?;
@@ -141,9 +141,7 @@ pub(crate) fn places(
         |i: u32|
             requires { (length levels.now ≡ nodes tree.now) × (i < nodes tree.now) }
             ensures { result ≡ is_component tree.entry.now levels.entry.now i }
-        {
-            is_component(tree, levels, i)
-        },
+        { is_component(tree, levels, i) },
         &mut places,
     );
     Ok(places)

@@ -1,6 +1,6 @@
 -- The contours of pictures in the trees of their graphs.
 use Rattle.std.proofs.Common.{◌≡◌, None, sym, subst}
-use Rattle.extinction.specs.Hierarchy.{hierarchy_of}
+use Rattle.extinction.specs.HierarchicalWatershed.{hierarchical_of}
 use Rattle.extinction.specs.declared.kind.Kind.{Kind}
 use Rattle.graph_hierarchy.specs.Tilings.{receipt_in}
 use Rattle.graph_hierarchy.specs.declared.tiling.Tiling.TheVariants.{Squares}
@@ -19,7 +19,7 @@ use Rattle.contour_run.specs.Drawing.{contours_receipt}
 use Rattle.contour_run.specs.declared.request.ContourRequest.{ContourRequest}
 
 -- the ends of each edge are below one root of a hierarchical watershed
-pub hierarchy_roots : (g : WeightedGraph) (kind : Kind) (t : ParentTree) → IsGraph g → t ≡ hierarchy_of g kind → EndsShareRoots g t
+pub hierarchy_roots : (g : WeightedGraph) (kind : Kind) (t : ParentTree) → IsGraph g → t ≡ hierarchical_of g kind → EndsShareRoots g t
 hierarchy_roots g kind t is same = subst (λ (u : ParentTree). EndsShareRoots g u) (sym same) (hierarchy_shares g kind is)
 
 -- the receipt of a picture's graph is that of the request

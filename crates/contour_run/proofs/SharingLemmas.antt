@@ -11,14 +11,14 @@ use Rattle.hg_base.proofs.Members.{IsIn-below_kept}
 use Rattle.hg_base.proofs.Ranked.{IsIn-ranked, ends-within}
 use Rattle.hg_base.proofs.Sets.{IsIn-joins, joined-among}
 use Rattle.hg_base.proofs.Walks.{IsSame-joined, Joined-joined, joined-ends}
-use Rattle.extinction.specs.Hierarchy.{by_persistence, hierarchy_edges, hierarchy_of}
+use Rattle.extinction.specs.HierarchicalWatershed.{by_persistence, persistence_edges, hierarchical_of}
 use Rattle.extinction.specs.Persistence.{persistences_of}
 use Rattle.extinction.specs.declared.kind.Kind.{Kind}
 use Rattle.extinction.proofs.LevelZero.{hierarchy-forest, hierarchy-list}
 use Rattle.partition_tree.proofs.PathLemmas.{common-shares}
 use Rattle.saliency.specs.Values.{EndsShareRoots}
-use Rattle.watershed_cut.proofs.Hits.{joined_into}
-use Rattle.watershed_cut.proofs.Quiet.{at_most-from}
+use Rattle.watershed_cut.proofs.JoinedByKind.{joined_into}
+use Rattle.watershed_cut.proofs.MinimumByWeight.{at_most-from}
 use Rattle.watershed_cut.proofs.Star.{map-in}
 
 -- a weight that no edge of the list is above
@@ -44,16 +44,16 @@ joins-enough s t keep (suc r) f i low = elim (cases_Bool (is_joining s f)) [
 ]
 
 -- the edges by persistence join the ends of each edge of the graph
-hierarchy-joins : (g : WeightedGraph) (kind : Kind) (f : ListedEdge) → IsIn f (ranked g) → joined (hierarchy_edges (ranked g) (persistences_of g kind)) f.u f.v ≡ true
+hierarchy-joins : (g : WeightedGraph) (kind : Kind) (f : ListedEdge) → IsIn f (ranked g) → joined (persistence_edges (ranked g) (persistences_of g kind)) f.u f.v ≡ true
 hierarchy-joins g kind f i =
     let s = ranked g in
     let p = persistences_of g kind in
-    joins-enough s (hierarchy_edges s p) (λ e m. joined-ends (hierarchy_edges s p) (by_persistence s p e) (map-in (by_persistence s p) e (joins s) m)) (suc f.rank) f i (omega arith)
+    joins-enough s (persistence_edges s p) (λ e m. joined-ends (persistence_edges s p) (by_persistence s p e) (map-in (by_persistence s p) e (joins s) m)) (suc f.rank) f i (omega arith)
 
 -- so some node is above both ends, and one root
-pub hierarchy_shares : (g : WeightedGraph) (kind : Kind) → IsGraph g → EndsShareRoots g (hierarchy_of g kind)
+pub hierarchy_shares : (g : WeightedGraph) (kind : Kind) → IsGraph g → EndsShareRoots g (hierarchical_of g kind)
 hierarchy_shares g kind is e h =
-    let s = hierarchy_edges (ranked g) (persistences_of g kind) in
+    let s = persistence_edges (ranked g) (persistences_of g kind) in
     let list = hierarchy-list g is kind in
     let forest = hierarchy-forest g is kind in
     let ends = ends-within g is e h in
@@ -61,6 +61,6 @@ hierarchy_shares g kind is e h =
     let own : joined s (first_end g e) (second_end g e) ≡ true = hierarchy-joins g kind (listed g (rank g e) e) (IsIn-ranked g e h) in
     let light : joined (at_most s top.0) (first_end g e) (second_end g e) ≡ true = joined-among s (at_most s top.0) (first_end g e) (second_end g e) (λ f i. at_most-from s top.0 f i (top.1 f i)) own in
     let above = (level-tree g.n s list.apart list.within list.by_weight).one_above top.0 (first_end g e) ends.0 in
-    let few : g.n ≤ length (hierarchy_of g kind).parents = (let each = forest.one_maker_each in omega arith) in
-    common-shares (hierarchy_of g kind) forest (first_end g e) (second_end g e) above.0 (omega (arith, few, ends.0))
+    let few : g.n ≤ length (hierarchical_of g kind).parents = (let each = forest.one_maker_each in omega arith) in
+    common-shares (hierarchical_of g kind) forest (first_end g e) (second_end g e) above.0 (omega (arith, few, ends.0))
     (above.1.1 (first_end g e) ends.0 ([], refl), above.1.1 (second_end g e) ends.1 (Joined-joined (at_most s top.0) (first_end g e) (second_end g e) light))

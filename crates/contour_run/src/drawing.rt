@@ -2,7 +2,7 @@
 ghost use Rattle.std.specs.Prelude.{◌≡◌, IfOk};
 ghost use Rattle.contour_map.specs.Drawn.{AreContoursIn};
 ghost use Rattle.edge_order.specs.Order.{order_of};
-ghost use Rattle.extinction.specs.Hierarchy.{hierarchy_of};
+ghost use Rattle.extinction.specs.HierarchicalWatershed.{hierarchical_of};
 ghost use Rattle.hg_base.specs.Tree.{graph_tree};
 ghost use Rattle.pgm_reader.specs.Grid as grid;
 ghost use Rattle.higra_cli.specs.Inputs.{graph_of};
@@ -124,7 +124,7 @@ fn hierarchy_contours(
     requires graph { graph.now ≡ grid.graph_of picture.now }
     requires order { order.now ≡ order_of graph.now }
     requires tree { IsTreeOf graph.now tree.now }
-    ensures { IfOk result (λ bytes. AreContoursIn picture.now (hierarchy_of graph.now kind) bytes.items) }
+    ensures { IfOk result (λ bytes. AreContoursIn picture.now (hierarchical_of graph.now kind) bytes.items) }
 {
     let basins = Basins::of(alloc, graph, order, tree)?;
     let hierarchy = basins.hierarchy(alloc, graph, tree, kind)?;

@@ -7,27 +7,27 @@ use Rattle.hg_base.specs.Tree.{ParentTree, IsAbove, tree_of}
 use Rattle.hg_base.specs.Levels.{is_above}
 use Rattle.hg_base.proofs.FrontOnce.{front-tree}
 use Rattle.hg_base.proofs.Tops.{is_above-from, is_above-to}
-use Rattle.partition_tree.specs.Forest.{IsForest}
-use Rattle.partition_tree.proofs.ForestClimbs.{forest-climbs, forest-leaves}
+use Rattle.partition_tree.specs.TreeLists.{IsWellFormed}
+use Rattle.partition_tree.proofs.WellFormed.{well_formed-climbs, well_formed-leaves}
 use Rattle.energy_cut.specs.Cuts.{IsLeastCut, least_cut_of}
 use Rattle.energy_cut.specs.Regions.{in_one_region}
-use Rattle.energy_cut.proofs.Lists.{any-from, any-to}
-use Rattle.energy_cut.proofs.Best.{best_nodes, best-least}
+use Rattle.partition_tree.proofs.ListTests.{any-from, any-to}
+use Rattle.energy_cut.proofs.HighestKeepers.{best_nodes, best-least}
 use Rattle.energy_cut.proofs.Listed.{least-found}
-use Rattle.energy_cut.proofs.Gathering.{least_exist}
+use Rattle.energy_cut.proofs.LeastBelow.{least_exist}
 
 -- the least cut of the definition is a least cut
-pub least-is : (t : ParentTree) (e : List ℕ) → IsForest t → IsLeastCut t e (least_cut_of t e)
+pub least-is : (t : ParentTree) (e : List ℕ) → IsWellFormed t → IsLeastCut t e (least_cut_of t e)
 least-is t e f =
     let b = least_exist t f e in
     least-found t e (best_nodes t e b.0) f (best-least t e b.0 f b.1)
 
 -- the test of one region says what it is to say
-pub region-from : (t : ParentTree) → IsForest t → (c : List ℕ) (x y : ℕ) → x < t.leaves → y < t.leaves → (i : ℕ) × (IsIn i c × (IsAbove t i x × IsAbove t i y)) → in_one_region t c x y ≡ true
+pub region-from : (t : ParentTree) → IsWellFormed t → (c : List ℕ) (x y : ℕ) → x < t.leaves → y < t.leaves → (i : ℕ) × (IsIn i c × (IsAbove t i x × IsAbove t i y)) → in_one_region t c x y ≡ true
 region-from t f c x y hx hy found =
-    let few = forest-leaves t f in
+    let few = well_formed-leaves t f in
     any-from (λ i. is_above t i x && is_above t i y) found.0 c found.1.0
-    (and_from _ _ (is_above-from t (forest-climbs t f) found.0 x (omega arith) found.1.1.0) (is_above-from t (forest-climbs t f) found.0 y (omega arith) found.1.1.1))
+    (and_from _ _ (is_above-from t (well_formed-climbs t f) found.0 x (omega arith) found.1.1.0) (is_above-from t (well_formed-climbs t f) found.0 y (omega arith) found.1.1.1))
 
 pub region-to : (t : ParentTree) (c : List ℕ) (x y : ℕ) → in_one_region t c x y ≡ true → (i : ℕ) × (IsIn i c × (IsAbove t i x × IsAbove t i y))
 region-to t c x y h =

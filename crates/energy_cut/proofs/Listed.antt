@@ -12,11 +12,12 @@ use Rattle.hg_base.proofs.Climbs.{above-on, above-same}
 use Rattle.hg_base.proofs.Members.{IsIn-filter, IsIn-kept}
 use Rattle.hg_base.proofs.Sets.{same_test}
 use Rattle.hg_base.proofs.Tops.{is_above-from, is_above-to}
-use Rattle.partition_tree.specs.Forest.{IsForest}
-use Rattle.partition_tree.proofs.ForestClimbs.{forest-climbs, forest-leaves}
+use Rattle.partition_tree.specs.TreeLists.{IsWellFormed}
+use Rattle.partition_tree.proofs.WellFormed.{well_formed-climbs, well_formed-leaves}
 use Rattle.energy_cut.specs.Cuts.{IsCut, IsLeastCut, IsCoarser, cut_energy, sublists, leaf_numbers, is_cut, cuts, is_coarser, is_least_cut, least_cut_of}
-use Rattle.energy_cut.proofs.Lists.{any-from, any-to, all-from, all-to, find-at, range-from, range-to, has, has-from, has-to, RisesFrom, rises-from, rises-to, rises-least, filter-agree, rising-passing}
-use Rattle.energy_cut.proofs.Best.{cut-within, has_leaf-from, has_leaf-to}
+use Rattle.partition_tree.proofs.ListTests.{any-from, any-to, all-from, all-to, range-from, range-to}
+use Rattle.energy_cut.proofs.ListMembers.{find-at, has, has-from, has-to, RisesFrom, rises-from, rises-to, rises-least, filter-agree, rising-passing}
+use Rattle.energy_cut.proofs.HighestKeepers.{cut-within, has_leaf-from, has_leaf-to}
 
 -- the lists that two lists hold
 in-left : {X : Type 0} (x : X) (xs ys : List X) → IsIn x xs → IsIn x (xs ++ ys)
@@ -43,7 +44,7 @@ in-mapped a c [] i = absurd i
 in-mapped a c (d ∷ ds) (inl same) = (d, (inl refl, same))
 in-mapped a c (d ∷ ds) (inr later) = let rest = in-mapped a c ds later in (rest.0, (inr rest.1.0, rest.1.1))
 
--- what a test keeps of a list is one of its sublists
+-- what a test keeps_own of a list is one of its sublists
 sublist-filter : (p : ℕ → Bool) (xs : List ℕ) → IsIn (filter p xs) (sublists xs)
 sublist-filter p [] = inl refl
 sublist-filter p (x ∷ xs) = elim (cases_Bool (p x)) [
@@ -144,26 +145,26 @@ counts-once p low (y ∷ ys) r o =
     ]
 
 -- the test of a cut says what it is to say
-is_cut-from : (t : ParentTree) → IsForest t → (c : List ℕ) → IsCut t c → is_cut t c ≡ true
+is_cut-from : (t : ParentTree) → IsWellFormed t → (c : List ℕ) → IsCut t c → is_cut t c ≡ true
 is_cut-from t f c k = and_from _ _
     (all-from (λ i. list_any (is_above t i) (leaf_numbers t)) c (λ i m. let x = k.in_paths i m in has_leaf-from t f i x.0 x.1.0 x.1.1))
     (all-from (λ x. count_by (λ i. is_above t i x) c == 1) (leaf_numbers t) (λ x m. once x (let r = range-to 0 t.leaves x m in omega (arith, r.1))))
   where
     once : (x : ℕ) → x < t.leaves → (count_by (λ i. is_above t i x) c == 1) ≡ true
     once x h =
-        let few = forest-leaves t f in
+        let few = well_formed-leaves t f in
         let one = k.one_each x h in
         eq-eqb (count_by (λ i. is_above t i x) c) 1
         (counts-once (λ i. is_above t i x) 0 c (rises-from 0 c k.rising (λ y m. omega arith)) (record {
           one = one.node;
           member = one.member;
-          passes = is_above-from t (forest-climbs t f) one.node x (omega arith) one.above;
+          passes = is_above-from t (well_formed-climbs t f) one.node x (omega arith) one.above;
           only = λ j m q. one.only j m (is_above-to t j x q);
         }))
 
-is_cut-to : (t : ParentTree) → IsForest t → (c : List ℕ) → IsStrictlyIncreasing c → is_cut t c ≡ true → IsCut t c
+is_cut-to : (t : ParentTree) → IsWellFormed t → (c : List ℕ) → IsStrictlyIncreasing c → is_cut t c ≡ true → IsCut t c
 is_cut-to t f c up h =
-    let few = forest-leaves t f in
+    let few = well_formed-leaves t f in
     let parts = and_parts _ _ h in record {
       rising = up;
       in_paths = λ i m. has_leaf-to t i (all-to (λ j. list_any (is_above t j) (leaf_numbers t)) c parts.0 i m);
@@ -172,26 +173,26 @@ is_cut-to t f c up h =
             node = one.one;
             member = one.member;
             above = is_above-to t one.one x one.passes;
-            only = λ j m a. one.only j m (is_above-from t (forest-climbs t f) j x (omega arith) a);
+            only = λ j m a. one.only j m (is_above-from t (well_formed-climbs t f) j x (omega arith) a);
           };
     }
 
 -- the list of cuts has exactly the cuts
-pub cuts-from : (t : ParentTree) → IsForest t → (c : List ℕ) → IsCut t c → IsIn c (cuts t)
+pub cuts-from : (t : ParentTree) → IsWellFormed t → (c : List ℕ) → IsCut t c → IsIn c (cuts t)
 cuts-from t f c k =
     IsIn-filter (is_cut t) c (sublists (range_with_len 0 (length t.parents))) (is_cut-from t f c k)
     (subst (λ (d : List ℕ). IsIn d (sublists (range_with_len 0 (length t.parents)))) (sym (rising-passing (length t.parents) c k.rising (cut-within t f c k)))
     (sublist-filter (has c) (range_with_len 0 (length t.parents))))
 
-pub cuts-to : (t : ParentTree) → IsForest t → (c : List ℕ) → IsIn c (cuts t) → IsCut t c
+pub cuts-to : (t : ParentTree) → IsWellFormed t → (c : List ℕ) → IsIn c (cuts t) → IsCut t c
 cuts-to t f c i =
     let k = IsIn-kept (is_cut t) c (sublists (range_with_len 0 (length t.parents))) i in
     is_cut-to t f c (rises-to 0 c (sublist-rises 0 (length t.parents) c k.1).rises) k.0
 
 -- the test of a coarser cut
-is_coarser-from : (t : ParentTree) → IsForest t → (c d : List ℕ) → IsCut t d → IsCoarser t c d → is_coarser t c d ≡ true
+is_coarser-from : (t : ParentTree) → IsWellFormed t → (c d : List ℕ) → IsCut t d → IsCoarser t c d → is_coarser t c d ≡ true
 is_coarser-from t f c d k over = all-from (λ j. list_any (λ i. is_above t i j) c) d (λ j m. let i = over j m in
-    any-from (λ i'. is_above t i' j) i.0 c i.1.0 (is_above-from t (forest-climbs t f) i.0 j (cut-within t f d k j m) i.1.1))
+    any-from (λ i'. is_above t i' j) i.0 c i.1.0 (is_above-from t (well_formed-climbs t f) i.0 j (cut-within t f d k j m) i.1.1))
 
 is_coarser-to : (t : ParentTree) (c d : List ℕ) → is_coarser t c d ≡ true → IsCoarser t c d
 is_coarser-to t c d h j m =
@@ -202,7 +203,7 @@ is_coarser-to t c d h j m =
 abbrev pub is_no_better : ParentTree → List ℕ → List ℕ → List ℕ → Bool
 is_no_better t e c d = nat_lt (cut_energy e c) (cut_energy e d) || ((cut_energy e c == cut_energy e d) && is_coarser t c d)
 
-is_least_cut-from : (t : ParentTree) (e c : List ℕ) → IsForest t → IsLeastCut t e c → is_least_cut t e c ≡ true
+is_least_cut-from : (t : ParentTree) (e c : List ℕ) → IsWellFormed t → IsLeastCut t e c → is_least_cut t e c ≡ true
 is_least_cut-from t e c f l = all-from (is_no_better t e c) (cuts t) (λ d m. passes d (cuts-to t f d m))
   where
     passes : (d : List ℕ) → IsCut t d → is_no_better t e c d ≡ true
@@ -215,7 +216,7 @@ is_least_cut-from t e c f l = all-from (is_no_better t e c) (cuts t) (λ d m. pa
               or_right _ _ (and_from _ _ (eq-eqb (cut_energy e c) (cut_energy e d) (sym same)) (is_coarser-from t f c d k (l.coarsest d k same)))
         ]
 
-is_least_cut-to : (t : ParentTree) (e c : List ℕ) → IsForest t → IsCut t c → is_least_cut t e c ≡ true → IsLeastCut t e c
+is_least_cut-to : (t : ParentTree) (e c : List ℕ) → IsWellFormed t → IsCut t c → is_least_cut t e c ≡ true → IsLeastCut t e c
 is_least_cut-to t e c f k h = record {
   cut = k;
   least = λ d kd. elim (said d kd) [
@@ -232,15 +233,15 @@ is_least_cut-to t e c f k h = record {
     said d kd = or_cases _ _ (all-to (is_no_better t e c) (cuts t) h d (cuts-from t f d kd))
 
 -- where there is a least cut, the one of the definition is one
-pub least-found : (t : ParentTree) (e c : List ℕ) → IsForest t → IsLeastCut t e c → IsLeastCut t e (least_cut_of t e)
+pub least-found : (t : ParentTree) (e c : List ℕ) → IsWellFormed t → IsLeastCut t e c → IsLeastCut t e (least_cut_of t e)
 least-found t e c f l =
     let found = find-at (is_least_cut t e) c [] (cuts t) (cuts-from t f c l.cut) (is_least_cut-from t e c f l) in
     is_least_cut-to t e (least_cut_of t e) f (cuts-to t f (least_cut_of t e) found.0) found.1
 
 -- of two cuts that are coarser than each other each node of one is of the other
-coarser-member : (t : ParentTree) → IsForest t → (c d : List ℕ) → IsCut t c → IsCut t d → IsCoarser t c d → IsCoarser t d c → (i : ℕ) → IsIn i c → IsIn i d
+coarser-member : (t : ParentTree) → IsWellFormed t → (c d : List ℕ) → IsCut t c → IsCut t d → IsCoarser t c d → IsCoarser t d c → (i : ℕ) → IsIn i c → IsIn i d
 coarser-member t f c d kc kd cd dc i m =
-    let up = forest-climbs t f in
+    let up = well_formed-climbs t f in
     let j = dc i m in
     let k = cd j.0 j.1.0 in
     let x = kc.in_paths i m in
@@ -250,7 +251,7 @@ coarser-member t f c d kc kd cd dc i m =
     subst (λ (z : ℕ). IsIn z d) same j.1.0
 
 -- there are no two least cuts
-pub least-one : (t : ParentTree) (e c d : List ℕ) → IsForest t → IsLeastCut t e c → IsLeastCut t e d → c ≡ d
+pub least-one : (t : ParentTree) (e c d : List ℕ) → IsWellFormed t → IsLeastCut t e c → IsLeastCut t e d → c ≡ d
 least-one t e c d f lc ld =
     let low : cut_energy e c ≤ cut_energy e d = lc.least d ld.cut in
     let high : cut_energy e d ≤ cut_energy e c = ld.least c lc.cut in

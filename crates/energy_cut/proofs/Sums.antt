@@ -9,11 +9,11 @@ use Rattle.std.proofs.lemmas.Nat.{mul-le}
 use Rattle.std.proofs.Math.Nat.{mul-le-mul_right}
 use Rattle.hg_base.specs.Tree.{ParentTree, altitude}
 use Rattle.hg_base.proofs.Passing.{length-passing, count_below-most}
-use Rattle.partition_tree.specs.Forest.{nodes, IsForest}
+use Rattle.partition_tree.specs.TreeLists.{nodes, IsWellFormed}
 use Rattle.energy_cut.specs.Cuts.{IsCut, cut_energy}
 use Rattle.energy_cut.specs.Energies.{node_energy, energies_of}
-use Rattle.energy_cut.proofs.Lists.{has, rising-passing}
-use Rattle.energy_cut.proofs.Best.{value, cut-within}
+use Rattle.energy_cut.proofs.ListMembers.{has, rising-passing}
+use Rattle.energy_cut.proofs.HighestKeepers.{value, cut-within}
 
 -- a bound of all values bounds what stands past the end too
 pub value-most : (xs : List ℕ) (b i : ℕ) → All (λ x. x ≤ b) xs → value xs i ≤ b
@@ -46,10 +46,6 @@ energies-fit t areas penalty small low fits k d h =
     subst (λ (e : ℕ). e < 2 ^ 65) (sym (get_or-map-range_with_len (node_energy t areas penalty) 0 (nodes t) k k d in_tree (omega arith)))
     (energy-small t areas penalty k small (low k in_tree) fits)
 
--- one more value
-pub values_more : (f : ℕ → ℕ) (i v : ℕ) (xs new : List ℕ) → xs ≡ map f (range_with_len 0 i) → v ≡ f i → new ≡ xs ++ v ∷ [] → new ≡ map f (range_with_len 0 (i + 1))
-values_more f i v xs new so_far this pushed = let more = map-range_with_len_more f 0 i i (omega arith) in cc
-
 -- the energies of so many nodes
 pub few-fit : (energies : List ℕ) (c : List ℕ) → length c ≤ 2097151 → All (λ e. e < 2 ^ 65) energies → cut_energy energies c < 2 ^ 86
 few-fit energies c few small =
@@ -59,7 +55,7 @@ few-fit energies c few small =
     omega arith
 
 -- those of a cut
-pub cut-fits : (t : ParentTree) (energies c : List ℕ) → IsForest t → All (λ e. e < 2 ^ 65) energies → IsCut t c → cut_energy energies c < 2 ^ 86
+pub cut-fits : (t : ParentTree) (energies c : List ℕ) → IsWellFormed t → All (λ e. e < 2 ^ 65) energies → IsCut t c → cut_energy energies c < 2 ^ 86
 cut-fits t energies c f small k =
     let same = ap (λ (xs : List ℕ). length xs) (rising-passing (length t.parents) c k.rising (cut-within t f c k)) in
     let counted = length-passing (has c) (length t.parents) in

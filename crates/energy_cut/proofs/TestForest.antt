@@ -1,11 +1,11 @@
--- A small forest of which an inner node is above no leaf.
+-- A small tree of which an inner node is above no leaf.
 use Rattle.std.proofs.Common.{◌≡◌, ℕ, zero, suc, ◌<◌, refl, arith, [], ◌∷◌}
 use Rattle.hg_base.specs.Tree.{parent, altitude}
-use Rattle.partition_tree.specs.Forest.{IsForest, lists_of}
+use Rattle.partition_tree.specs.TreeLists.{IsWellFormed, lists_of}
 
 -- two leaves, a root, and a child of it without leaves
-pub leafless-forest : IsForest (lists_of 2 (3 ∷ 3 ∷ 3 ∷ 3 ∷ []) (0 ∷ 0 ∷ 0 ∷ 5 ∷ []) (0 ∷ 1 ∷ []))
-leafless-forest = record {
+pub leafless-tree : IsWellFormed (lists_of 2 (3 ∷ 3 ∷ 3 ∷ 3 ∷ []) (0 ∷ 0 ∷ 0 ∷ 5 ∷ []) (0 ∷ 1 ∷ []))
+leafless-tree = record {
   some_leaf = omega arith;
   few_leaves = omega arith;
   small = omega arith;

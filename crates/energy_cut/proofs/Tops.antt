@@ -13,13 +13,14 @@ use Rattle.hg_base.proofs.Climbs.{above-within}
 use Rattle.hg_base.proofs.KeyClasses.{same_key-from, same_key-to, classing-of_keys, AreLabels, labels-by_keys}
 use Rattle.hg_base.proofs.Sets.{same_test}
 use Rattle.hg_base.proofs.Tops.{is_above-from, is_above-to}
-use Rattle.partition_tree.specs.Forest.{IsForest}
-use Rattle.partition_tree.proofs.ForestClimbs.{forest-climbs, forest-leaves}
-use Rattle.energy_cut.specs.Passes.{IsHighest, AreTops, keeps, is_key}
+use Rattle.partition_tree.specs.TreeLists.{IsWellFormed}
+use Rattle.partition_tree.proofs.WellFormed.{well_formed-climbs, well_formed-leaves}
+use Rattle.energy_cut.specs.LeastEnergies.{IsHighest, AreHighestKeepers, keeps_own, is_key}
 use Rattle.energy_cut.specs.Regions.{in_one_region}
-use Rattle.energy_cut.proofs.Lists.{any-from, any-to, passing-from, passing-to, filter-agree}
+use Rattle.partition_tree.proofs.ListTests.{any-from, any-to}
+use Rattle.energy_cut.proofs.ListMembers.{passing-from, passing-to, filter-agree}
 use Rattle.energy_cut.proofs.Covers.{free-from}
-use Rattle.energy_cut.proofs.Best.{has_leaf-from, has_leaf-to, leaf-keeps, is_best, best_nodes, best-cut}
+use Rattle.energy_cut.proofs.HighestKeepers.{has_leaf-from, has_leaf-to, leaf-keeps, is_best, best_nodes, best-cut}
 
 -- the top of a leaf, by number
 abbrev pub top_of_leaf : List (Option ℕ) → ℕ → ℕ
@@ -27,13 +28,13 @@ top_of_leaf tops x = unwrap_or (get_or tops x None) 0
 
 -- the keys of the leaves are their tops
 pub record AreLeafKeys (t : ParentTree) (e : List ℕ) (tops keys : List (Option ℕ)) : Type 0 where
-  pub forest : IsForest t
-  pub tops_are : AreTops t e tops
+  pub well_formed : IsWellFormed t
+  pub tops_are : AreHighestKeepers t e tops
   pub one_each : length keys ≡ t.leaves
   pub same : (x : ℕ) → x < t.leaves → get_or keys x None ≡ get_or tops x None
 
 -- the nodes of the least cut
-abbrev pub cut_nodes : (t : ParentTree) (e : List ℕ) (tops : List (Option ℕ)) → AreTops t e tops → List ℕ
+abbrev pub cut_nodes : (t : ParentTree) (e : List ℕ) (tops : List (Option ℕ)) → AreHighestKeepers t e tops → List ℕ
 cut_nodes t e tops a = best_nodes t e a.least
 
 -- a leaf has a top
@@ -41,14 +42,14 @@ pub leaf-top : (t : ParentTree) (e : List ℕ) (tops keys : List (Option ℕ)) �
 leaf-top t e tops keys k x h = is (get_or tops x None) refl
   where
     low : x < length t.parents
-    low = let few = forest-leaves t k.forest in omega arith
+    low = let few = well_formed-leaves t k.well_formed in omega arith
 
     is : (o : Option ℕ) → get_or tops x None ≡ o → get_or tops x None ≡ Some (top_of_leaf tops x)
     is (Some j) q = q ∙ ap (λ (m : ℕ). Some m) (sym (ap (λ (o : Option ℕ). unwrap_or o 0) q))
     is None q = absurd (k.tops_are.highest.none x x low q (0, refl) (leaf-keeps t e k.tops_are.least k.tops_are.are_least x low h))
 
-pub leaf-highest : (t : ParentTree) (e : List ℕ) (tops keys : List (Option ℕ)) → (k : AreLeafKeys t e tops keys) → (x : ℕ) → x < t.leaves → IsHighest t (keeps e k.tops_are.least) x (top_of_leaf tops x)
-leaf-highest t e tops keys k x h = k.tops_are.highest.found x (top_of_leaf tops x) (let few = forest-leaves t k.forest in omega arith) (leaf-top t e tops keys k x h)
+pub leaf-highest : (t : ParentTree) (e : List ℕ) (tops keys : List (Option ℕ)) → (k : AreLeafKeys t e tops keys) → (x : ℕ) → x < t.leaves → IsHighest t (keeps_own e k.tops_are.least) x (top_of_leaf tops x)
+leaf-highest t e tops keys k x h = k.tops_are.highest.found x (top_of_leaf tops x) (let few = well_formed-leaves t k.well_formed in omega arith) (leaf-top t e tops keys k x h)
 
 pub leaf-key : (t : ParentTree) (e : List ℕ) (tops keys : List (Option ℕ)) → AreLeafKeys t e tops keys → (x : ℕ) → x < t.leaves → get_or keys x None ≡ Some (top_of_leaf tops x)
 leaf-key t e tops keys k x h = k.same x h ∙ leaf-top t e tops keys k x h
@@ -57,25 +58,25 @@ leaf-key t e tops keys k x h = k.same x h ∙ leaf-top t e tops keys k x h
 pub top-member : (t : ParentTree) (e : List ℕ) (tops keys : List (Option ℕ)) → (k : AreLeafKeys t e tops keys) → (x : ℕ) → x < t.leaves → IsIn (top_of_leaf tops x) (cut_nodes t e tops k.tops_are)
 top-member t e tops keys k x h =
     let high = leaf-highest t e tops keys k x h in
-    let up = forest-climbs t k.forest in
-    let few = forest-leaves t k.forest in
+    let up = well_formed-climbs t k.well_formed in
+    let few = well_formed-leaves t k.well_formed in
     passing-from (is_best t e k.tops_are.least) (length t.parents) (top_of_leaf tops x) (above-within t up (top_of_leaf tops x) x (omega arith) high.above)
-    (and_from _ _ (and_from _ _ (free-from t (keeps e k.tops_are.least) (top_of_leaf tops x) (λ w. w.other (high.last w.node w.above w.passes))) high.passes)
-    (has_leaf-from t k.forest (top_of_leaf tops x) x h high.above))
+    (and_from _ _ (and_from _ _ (free-from t (keeps_own e k.tops_are.least) (top_of_leaf tops x) (λ w. w.other (high.last w.node w.above w.passes))) high.passes)
+    (has_leaf-from t k.well_formed (top_of_leaf tops x) x h high.above))
 
 -- a node of the least cut is the top of the leaves below it
 pub top-only : (t : ParentTree) (e : List ℕ) (tops keys : List (Option ℕ)) → (k : AreLeafKeys t e tops keys) → (x i : ℕ) → x < t.leaves → IsIn i (cut_nodes t e tops k.tops_are) → IsAbove t i x → top_of_leaf tops x ≡ i
 top-only t e tops keys k x i h m a =
-    let one = (best-cut t e k.tops_are.least k.forest k.tops_are.are_least).one_each x h in
+    let one = (best-cut t e k.tops_are.least k.well_formed k.tops_are.are_least).one_each x h in
     one.only (top_of_leaf tops x) (top-member t e tops keys k x h) (leaf-highest t e tops keys k x h).above ∙ sym (one.only i m a)
 
 -- all keys are nodes
 pub keys-below : (t : ParentTree) (e : List ℕ) (tops keys : List (Option ℕ)) → AreLeafKeys t e tops keys → All (λ (key : Option ℕ). IfSome key (λ k. k < length t.parents)) keys
 keys-below t e tops keys k x d h =
     let low : x < t.leaves = (let long = k.one_each in omega arith) in
-    let few = forest-leaves t k.forest in
+    let few = well_formed-leaves t k.well_formed in
     subst (λ (key : Option ℕ). IfSome key (λ j. j < length t.parents)) (sym (get_or_default keys x d None h ∙ leaf-key t e tops keys k x low))
-    (above-within t (forest-climbs t k.forest) (top_of_leaf tops x) x (omega arith) (leaf-highest t e tops keys k x low).above)
+    (above-within t (well_formed-climbs t k.well_formed) (top_of_leaf tops x) x (omega arith) (leaf-highest t e tops keys k x low).above)
 
 -- members of a list by place
 pub in-at : {X : Type 0} (xs : List X) (i : ℕ) (d : X) → i < length xs → IsIn (get_or xs i d) xs
@@ -116,7 +117,7 @@ chosen-nodes t e tops keys k = filter-agree (is_key keys) (is_best t e k.tops_ar
 pub region-keys : (t : ParentTree) (e : List ℕ) (tops keys : List (Option ℕ)) → (k : AreLeafKeys t e tops keys) → (x y : ℕ) → x < t.leaves → y < t.leaves →
     in_one_region t (cut_nodes t e tops k.tops_are) x y ≡ same_key keys x y
 region-keys t e tops keys k x y hx hy =
-    let few = forest-leaves t k.forest in
+    let few = well_formed-leaves t k.well_formed in
     let c = cut_nodes t e tops k.tops_are in
     same_test _ _
     (λ h. (let found = any-to (λ i. is_above t i x && is_above t i y) c h in
@@ -124,7 +125,7 @@ region-keys t e tops keys k x y hx hy =
     same_key-from keys t.leaves (top_of_leaf tops) (leaf-key t e tops keys k) x y hx hy
     (top-only t e tops keys k x found.0 hx found.1.0 (is_above-to t found.0 x parts.0) ∙ sym (top-only t e tops keys k y found.0 hy found.1.0 (is_above-to t found.0 y parts.1)))))
     (λ h. (let same = same_key-to keys t.leaves (top_of_leaf tops) (leaf-key t e tops keys k) x y hx hy h in
-    let up = forest-climbs t k.forest in
+    let up = well_formed-climbs t k.well_formed in
     any-from (λ i. is_above t i x && is_above t i y) (top_of_leaf tops x) c (top-member t e tops keys k x hx)
     (and_from _ _
     (is_above-from t up (top_of_leaf tops x) x (omega arith) (leaf-highest t e tops keys k x hx).above)
@@ -136,4 +137,4 @@ pub region-labels : (t : ParentTree) (e : List ℕ) (tops keys : List (Option �
 region-labels t e tops keys k =
     let r = in_one_region t (cut_nodes t e tops k.tops_are) in
     labels-by_keys keys t.leaves (top_of_leaf tops) r (leaf-key t e tops keys k)
-    (classing-of_keys keys t.leaves (top_of_leaf tops) r (leaf-key t e tops keys k) (region-keys t e tops keys k)) (region-keys t e tops keys k) k.forest.some_leaf k.forest.few_leaves
+    (classing-of_keys keys t.leaves (top_of_leaf tops) r (leaf-key t e tops keys k) (region-keys t e tops keys k)) (region-keys t e tops keys k) k.well_formed.some_leaf k.well_formed.few_leaves

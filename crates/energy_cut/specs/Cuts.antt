@@ -5,7 +5,7 @@ use Rattle.std.specs.List.Sorted.{IsStrictlyIncreasing}
 use Rattle.hg_base.specs.Edges.{IsIn}
 use Rattle.hg_base.specs.Tree.{ParentTree, IsAbove}
 use Rattle.hg_base.specs.Levels.{is_above}
-use Rattle.partition_tree.specs.Forest.{nodes}
+use Rattle.partition_tree.specs.TreeLists.{nodes}
 
 -- the path of x has exactly one node of the list
 pub record HasOneAbove (t : ParentTree) (c : List ℕ) (x : ℕ) : Type 0 where

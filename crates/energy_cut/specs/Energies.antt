@@ -2,7 +2,7 @@
 use Rattle.std.specs.Prelude.{ℕ, ◌+◌, ◌*◌, List, map, slice_index}
 use Rattle.std.specs.List.{range_with_len}
 use Rattle.hg_base.specs.Tree.{ParentTree, altitude}
-use Rattle.partition_tree.specs.Forest.{nodes}
+use Rattle.partition_tree.specs.TreeLists.{nodes}
 
 -- the energy of node i: what each region costs, and the node's area times its altitude
 abbrev pub node_energy : ParentTree → List ℕ → ℕ → ℕ → ℕ

@@ -2,5 +2,5 @@ pub mod Cuts
 pub mod Energies
 pub mod Regions
 pub mod EnergyCutFields
-pub mod Passes
+pub mod LeastEnergies
 pub mod Report

@@ -1,8 +1,8 @@
 //! The nodes of the least cut: one pass up, one down, and one that collects.
 ghost use Rattle.std.specs.Prelude.{◌≡◌, ℕ, ◌<◌, ◌≤◌, ◌^◌, All, length, IfOk, IfSome, Some, None, Option, false, filter, get_or, is_some, min, replicate, if◌then◌else◌};
 ghost use Rattle.std.specs.List.{range_with_len};
-ghost use Rattle.partition_tree.specs.Forest.{nodes, IsForest};
-ghost use Rattle.energy_cut.specs.Passes.{AreLeast, AreHighest, AreTops, keeps, is_key};
+ghost use Rattle.partition_tree.specs.TreeLists.{nodes, IsWellFormed};
+ghost use Rattle.energy_cut.specs.LeastEnergies.{AreLeast, AreHighest, AreHighestKeepers, keeps_own, is_key};
 
 use partition_tree::Tree;
 use std::alloc::{AllocError, Global};
@@ -15,8 +15,8 @@ pub(crate) fn tops(
 ) -> Result<Vec<Option<u32>>, AllocError>
     requires one_each { length energies.now ≡ nodes tree.now }
     requires below { All (λ e. e < 2 ^ 65) energies.now }
-    ensures forest { IfOk result (λ tops. IsForest tree.now) }
-    ensures tops { IfOk result (λ tops. AreTops tree.now energies.now tops.items) }
+    ensures well_formed { IfOk result (λ tops. IsWellFormed tree.now) }
+    ensures tops { IfOk result (λ tops. AreHighestKeepers tree.now energies.now tops.items) }
 {
     let least = least_energies(alloc, tree, energies)?;
     let mut tops = vec![in alloc; None; tree.nodes() as usize]?;
@@ -66,27 +66,27 @@ fn least_of(is_leaf: bool, energy: u128, children: u128) -> u128
     }
 }
 
-// Gives each node its parent's top, or else its own number where it keeps its own energy, from the roots down.
+// Gives each node its parent's top, or else its own number where it keeps_own its own energy, from the roots down.
 fn send_down(tree: &Tree, energies: &[u128], least: &[u128], tops: &mut [Option<u32>])
     requires energies { length energies.now ≡ nodes tree.now }
     requires least { length least.now ≡ nodes tree.now }
     requires empty { tops.old ≡ replicate (nodes tree.now) None }
-    ensures { AreHighest tree.now (keeps energies.now least.now) tops.new }
+    ensures { AreHighest tree.now (keeps_own energies.now least.now) tops.new }
 {
     for i in (0..tree.nodes()).rev() {
         let above = tops[tree.parent(i) as usize];
-        let keeps = least[i as usize] == energies[i as usize];
-        tops[i as usize] = top_of(above, i, keeps);
+        let keeps_own = least[i as usize] == energies[i as usize];
+        tops[i as usize] = top_of(above, i, keeps_own);
     }
 }
 
 // The top of node i, where that of its parent is known.
-fn top_of(above: Option<u32>, i: u32, keeps: bool) -> Option<u32>
-    ensures { result ≡ (if is_some above then above else (if keeps then Some i else None)) }
+fn top_of(above: Option<u32>, i: u32, keeps_own: bool) -> Option<u32>
+    ensures { result ≡ (if is_some above then above else (if keeps_own then Some i else None)) }
 {
     match above {
         Some(top) => Some(top),
-        None if keeps => Some(i),
+        None if keeps_own => Some(i),
         None => None,
     }
 }

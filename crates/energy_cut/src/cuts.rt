@@ -1,5 +1,5 @@
 ghost use Rattle.std.specs.Prelude.{◌≡◌, ◌<◌, ◌≤◌, ◌^◌, All, length, IfOk};
-ghost use Rattle.partition_tree.specs.Forest.{nodes};
+ghost use Rattle.partition_tree.specs.TreeLists.{nodes};
 ghost use Rattle.energy_cut.specs.Cuts.{IsLeastCut, cut_energy};
 ghost use Rattle.energy_cut.specs.Regions.{energy_cut_of};
 

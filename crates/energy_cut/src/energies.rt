@@ -1,6 +1,6 @@
 ghost use Rattle.std.specs.Prelude.{◌≡◌, ℕ, ◌<◌, ◌≤◌, ◌^◌, All, length, IfOk};
 ghost use Rattle.hg_base.specs.Tree.{altitude};
-ghost use Rattle.partition_tree.specs.Forest.{nodes};
+ghost use Rattle.partition_tree.specs.TreeLists.{nodes};
 ghost use Rattle.energy_cut.specs.Energies.{energies_of};
 
 use hg_base::OutOfMemory;

@@ -1,6 +1,6 @@
 ghost use Rattle.std.specs.Prelude.{◌≡◌, ℕ, ◌<◌, ◌^◌, All, IfOk, true, vec_len};
 ghost use Rattle.hg_base.specs.Tree.{altitude};
-ghost use Rattle.partition_tree.specs.Forest.{nodes};
+ghost use Rattle.partition_tree.specs.TreeLists.{nodes};
 ghost use Rattle.partition_tree.specs.Ranked.{IsRankedList};
 
 use super::{least_cut, node_energies, write_energy};

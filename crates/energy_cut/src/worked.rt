@@ -1,7 +1,7 @@
 //! Worked examples of least cuts: the checker computes each definition and compares it with values that were worked out
 //! by hand. No code runs.
 ghost use Rattle.std.specs.Prelude.{◌≡◌, [], ◌∷◌};
-ghost use Rattle.partition_tree.specs.Forest.{lists_of};
+ghost use Rattle.partition_tree.specs.TreeLists.{lists_of};
 ghost use Rattle.energy_cut.specs.Energies.{energies_of};
 ghost use Rattle.energy_cut.specs.Regions.{energy_cut_of};
 

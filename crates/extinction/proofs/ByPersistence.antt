@@ -8,8 +8,8 @@ use Rattle.hg_base.proofs.Members.{IsRising}
 use Rattle.hg_base.proofs.Nodes.{joins-at, place-one}
 use Rattle.hg_base.proofs.Sets.{IsRising-joins, IsIn-joins_kept}
 use Rattle.watershed_cut.proofs.Star.{in-map}
-use Rattle.extinction.specs.Hierarchy.{turn, by_persistence, hierarchy_edges}
-use Rattle.extinction.proofs.Turns.{turn-one, turn-rises}
+use Rattle.extinction.specs.HierarchicalWatershed.{persistence_rank, by_persistence, persistence_edges}
+use Rattle.extinction.proofs.PersistenceRanks.{persistence_rank-one, persistence_rank-rises}
 
 -- the place of a joining edge
 pub place-low : (s : EdgeList) → AreApart s → (e : ListedEdge) → IsIn e (joins s) → place s e < length (joins s)
@@ -27,23 +27,23 @@ apart-mapped f (e ∷ t) h one = (
   apart-mapped f t h.1 (λ a b i j. one a b (inr i) (inr j)),
 )
 
-pub hierarchy-apart : (s : EdgeList) → AreApart s → (p : List ℕ) → length p ≡ length (joins s) → AreApart (hierarchy_edges s p)
+pub hierarchy-apart : (s : EdgeList) → AreApart s → (p : List ℕ) → length p ≡ length (joins s) → AreApart (persistence_edges s p)
 hierarchy-apart s h p long = apart-mapped (by_persistence s p) (joins s) (IsRising-joins s h) (λ e g i j same.
-    place-one s h e g i j (turn-one p (place s e) (place s g) (omega (arith, long, place-low s h e i)) (omega (arith, long, place-low s h g j)) same))
+    place-one s h e g i j (persistence_rank-one p (place s e) (place s g) (omega (arith, long, place-low s h e i)) (omega (arith, long, place-low s h g j)) same))
 
-pub hierarchy-within : (n : ℕ) (s : EdgeList) → AreWithin n s → (p : List ℕ) → AreWithin n (hierarchy_edges s p)
+pub hierarchy-within : (n : ℕ) (s : EdgeList) → AreWithin n s → (p : List ℕ) → AreWithin n (persistence_edges s p)
 hierarchy-within n s within p f i =
     let e = in-map (by_persistence s p) f (joins s) i in
     let w = within e.0 (IsIn-joins_kept s e.0 e.1.0).0 in
     (subst (λ (k : ℕ). k < n) (ap (λ (x : ListedEdge). x.u) e.1.1) w.0, subst (λ (k : ℕ). k < n) (ap (λ (x : ListedEdge). x.v) e.1.1) w.1)
 
-pub hierarchy-by_weight : (s : EdgeList) → AreApart s → (p : List ℕ) → length p ≡ length (joins s) → AreByWeight (hierarchy_edges s p)
+pub hierarchy-by_weight : (s : EdgeList) → AreApart s → (p : List ℕ) → length p ≡ length (joins s) → AreByWeight (persistence_edges s p)
 hierarchy-by_weight s h p long f k i j lt =
     let e = in-map (by_persistence s p) f (joins s) i in
     let g = in-map (by_persistence s p) k (joins s) j in
-    let re : turn p (place s e.0) ≡ f.rank = ap (λ (x : ListedEdge). x.rank) e.1.1 in
-    let rg : turn p (place s g.0) ≡ k.rank = ap (λ (x : ListedEdge). x.rank) g.1.1 in
+    let re : persistence_rank p (place s e.0) ≡ f.rank = ap (λ (x : ListedEdge). x.rank) e.1.1 in
+    let rg : persistence_rank p (place s g.0) ≡ k.rank = ap (λ (x : ListedEdge). x.rank) g.1.1 in
     let we : get_or p (place s e.0) 0 ≡ f.weight = ap (λ (x : ListedEdge). x.weight) e.1.1 in
     let wg : get_or p (place s g.0) 0 ≡ k.weight = ap (λ (x : ListedEdge). x.weight) g.1.1 in
-    let r = turn-rises p (place s e.0) (place s g.0) (omega (arith, long, place-low s h e.0 e.1.0)) (omega (arith, long, place-low s h g.0 g.1.0)) (omega arith) in
+    let r = persistence_rank-rises p (place s e.0) (place s g.0) (omega (arith, long, place-low s h e.0 e.1.0)) (omega (arith, long, place-low s h g.0 g.1.0)) (omega arith) in
     omega (arith, r)

@@ -1,4 +1,4 @@
--- Which minima a node of a forest holds: the tests, and from child to parent.
+-- Which minima a node of a tree holds: the tests, and from child to parent.
 use Rattle.std.proofs.Common.{◌≡◌, ℕ, zero, suc, ◌+◌, ◌<◌, ◌≤◌, Bool, true, false, inl, inr, refl, sym, ◌∙◌, subst, ap, arith, List, [], ◌∷◌, length, get_or}
 use Rattle.std.specs.Prelude.{◌==◌, ◌||◌, not, nat_lt, Option, Some, None, find, unwrap_or}
 use Rattle.std.specs.List.{range_with_len, list_all}
@@ -10,24 +10,14 @@ use Rattle.hg_base.specs.Levels.{IsClimbing, is_above}
 use Rattle.hg_base.proofs.Climbs.{above-parent}
 use Rattle.hg_base.proofs.Leasts.{first_of}
 use Rattle.hg_base.proofs.Tops.{is_above-from, is_above-to}
-use Rattle.partition_tree.specs.Forest.{IsForest}
+use Rattle.partition_tree.specs.TreeLists.{IsWellFormed}
 use Rattle.partition_tree.specs.Children.{is_child, child_count, IsChildAt}
 use Rattle.partition_tree.proofs.ChildLemmas.{count-nth, child-parent, child-other}
-use Rattle.partition_tree.proofs.ForestClimbs.{forest-climbs, forest-leaves}
+use Rattle.partition_tree.proofs.WellFormed.{well_formed-climbs, well_formed-leaves}
 use Rattle.watershed_cut.specs.MinimumLabels.{LabelledMinima}
-use Rattle.watershed_cut.proofs.AnyIn.{any-from, any-to, range-to, range-from}
+use Rattle.partition_tree.proofs.ListTests.{any-from, any-to, all-from, all-to, range-to, range-from}
 use Rattle.extinction.specs.Holding.{HoldsMinimum, holds_minimum, holds, least_held, child, child_holds}
 use Rattle.extinction.proofs.SideLemmas.{child-found}
-
--- each element of a list that passes a test
-pub all-from : {X : Type 0} (p : X → Bool) (xs : List X) → ((x : X) → IsIn x xs → p x ≡ true) → list_all p xs ≡ true
-all-from {X} p [] h = refl
-all-from {X} p (y ∷ ys) h = and_from (p y) (list_all p ys) (h y (inl refl)) (all-from p ys (λ x i. h x (inr i)))
-
-pub all-to : {X : Type 0} (p : X → Bool) (xs : List X) (x : X) → list_all p xs ≡ true → IsIn x xs → p x ≡ true
-all-to {X} p [] x h i = absurd i
-all-to {X} p (y ∷ ys) x h (inl same) = subst (λ (z : X). p z ≡ true) same (and_parts (p y) (list_all p ys) h).0
-all-to {X} p (y ∷ ys) x h (inr later) = all-to p ys x (and_parts (p y) (list_all p ys) h).1 later
 
 -- the test of holding
 pub holds_minimum-from : (t : ParentTree) (m : LabelledMinima) → IsClimbing t → t.leaves ≤ length t.parents → (i label : ℕ) → HoldsMinimum t m i label → holds_minimum t m i label ≡ true
@@ -107,7 +97,7 @@ least-some t m i h =
     subst (IsLabel m.count) (sym at) (in-label m.count f.at (found-in (holds_minimum t m i) (range_with_len 1 m.count) f.at f.found))
 
 -- the child before which k others come
-pub child-there : (t : ParentTree) → IsForest t → (i k : ℕ) → k < child_count t i → IsChildAt t i k (child t i k)
+pub child-there : (t : ParentTree) → IsWellFormed t → (i k : ℕ) → k < child_count t i → IsChildAt t i k (child t i k)
 child-there t f i k h =
     let found = count-nth (is_child t i) (length t.parents) k h in
     let j = found.0 in
@@ -125,7 +115,7 @@ child_holds-to t m i k h = let p = and_parts (nat_lt k (child_count t i)) (holds
 pub child_holds-from : (t : ParentTree) (m : LabelledMinima) (i k : ℕ) → k < child_count t i → holds t m (child t i k) ≡ true → child_holds t m i k ≡ true
 child_holds-from t m i k h c = and_from _ _ (lt-ltb k (child_count t i) h) c
 
-pub child_holds-up : (t : ParentTree) (m : LabelledMinima) → IsForest t → (i k : ℕ) → child_holds t m i k ≡ true → holds t m i ≡ true
+pub child_holds-up : (t : ParentTree) (m : LabelledMinima) → IsWellFormed t → (i k : ℕ) → child_holds t m i k ≡ true → holds t m i ≡ true
 child_holds-up t m f i k h =
     let p = child_holds-to t m i k h in
-    holds-up t m (forest-climbs t f) (forest-leaves t f) (child t i k) i (child-there t f i k p.0).parent_is p.1
+    holds-up t m (well_formed-climbs t f) (well_formed-leaves t f) (child t i k) i (child-there t f i k p.0).parent_is p.1

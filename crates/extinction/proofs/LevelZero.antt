@@ -22,9 +22,9 @@ use Rattle.hg_base.proofs.Sets.{IsIn-joins, IsIn-joins_kept}
 use Rattle.hg_base.proofs.TreeNodes.{made-within}
 use Rattle.hg_base.proofs.Walks.{IsSame-joined, joined-ends, Joined-joined}
 use Rattle.hg_base.proofs.ZoneLevels.{shares-joined}
-use Rattle.partition_tree.specs.Forest.{IsForest}
+use Rattle.partition_tree.specs.TreeLists.{IsWellFormed}
 use Rattle.partition_tree.specs.Children.{child_count}
-use Rattle.partition_tree.proofs.TreeLemmas.{tree-forest, tree-rises}
+use Rattle.partition_tree.proofs.TreeLemmas.{tree-well_formed, tree-rises}
 use Rattle.attributes.specs.Attributes.{floor}
 use Rattle.watershed_cut.specs.Minima.{IsEnd, IsMinimumEdge, InMinimum}
 use Rattle.watershed_cut.specs.MinimumTests.{is_minimum, minimum_edges, vertex_label, minimum_count, edge_label}
@@ -32,22 +32,22 @@ use Rattle.watershed_cut.specs.MinimumLabels.{LabelledMinima, minima_of}
 use Rattle.watershed_cut.specs.Forest.{reaches, is_forest, trees}
 use Rattle.watershed_cut.specs.Watershed.{tree_label}
 use Rattle.watershed_cut.proofs.ForestWalks.{reaches-to, reaches-from}
-use Rattle.watershed_cut.proofs.Hits.{joined_into}
+use Rattle.watershed_cut.proofs.JoinedByKind.{joined_into}
 use Rattle.watershed_cut.proofs.MinimumWalks.{minimum-to, minimum-from, minimum_edges-to, minimum-next, in_minimum-from, step-first, step-second}
-use Rattle.watershed_cut.proofs.Quiet.{at_most-to, at_most-from}
+use Rattle.watershed_cut.proofs.MinimumByWeight.{at_most-to, at_most-from}
 use Rattle.watershed_cut.proofs.Star.{in-map, map-in}
 use Rattle.watershed_cut.proofs.TreeLabels.{label-range, tree-label_same}
 use Rattle.extinction.specs.Values.{graph_values}
 use Rattle.extinction.specs.Holding.{holds as holding, child, child_holds, both_hold}
 use Rattle.extinction.specs.Persistence.{persistence, persistences_of}
-use Rattle.extinction.specs.Hierarchy.{by_persistence, hierarchy_edges, hierarchy_of}
+use Rattle.extinction.specs.HierarchicalWatershed.{by_persistence, persistence_edges, hierarchical_of}
 use Rattle.extinction.specs.declared.kind.Kind.{Kind}
 use Rattle.extinction.proofs.SideLemmas.{IsSide, AreSides, AreChildrenOf}
 use Rattle.extinction.proofs.TreeFacts.{of-graph, graph-children}
 use Rattle.extinction.proofs.HoldLemmas.{holds-from, holds-to}
-use Rattle.extinction.proofs.Bottoms.{IsBottom, bottom-of, bottom-label, bottom-same, over-bottom, bottom-over, inside-minimum, labelled-member}
+use Rattle.extinction.proofs.LowestHolders.{IsBottom, bottom-of, bottom-label, bottom-same, over-bottom, bottom-over, inside-minimum, labelled-member}
 use Rattle.extinction.proofs.NodeLabels.{vertex-read, made-label, bottom-last}
-use Rattle.extinction.proofs.Worth.{floor-under, worth-some}
+use Rattle.extinction.proofs.PositiveAttributes.{floor-under, worth-some}
 use Rattle.extinction.proofs.ByPersistence.{place-low, hierarchy-apart, hierarchy-within, hierarchy-by_weight}
 
 -- a node that holds is above the lowest node of a label
@@ -303,14 +303,14 @@ zero-trees g h kind e i zero' = elim (cases_Bool (is_minimum (ranked g) e)) [
 
 -- the edges of the list by persistence at level 0
 abbrev pub ground : WeightedGraph → Kind → EdgeList
-ground g kind = at_most (hierarchy_edges (ranked g) (persistences_of g kind)) 0
+ground g kind = at_most (persistence_edges (ranked g) (persistences_of g kind)) 0
 
 ground-in : (g : WeightedGraph) (kind : Kind) (e : ListedEdge) → IsIn e (joins (ranked g)) → get_or (persistences_of g kind) (place (ranked g) e) 0 ≡ 0 → joined (ground g kind) e.u e.v ≡ true
 ground-in g kind e i zero' =
     let p = persistences_of g kind in
     let f = by_persistence (ranked g) (persistences_of g kind) e in
     joined-ends (ground g kind) (by_persistence (ranked g) (persistences_of g kind) e)
-    (at_most-from (hierarchy_edges (ranked g) (persistences_of g kind)) 0 (by_persistence (ranked g) (persistences_of g kind) e) (map-in (by_persistence (ranked g) (persistences_of g kind)) e (joins (ranked g)) i) (omega arith))
+    (at_most-from (persistence_edges (ranked g) (persistences_of g kind)) 0 (by_persistence (ranked g) (persistences_of g kind) e) (map-in (by_persistence (ranked g) (persistences_of g kind)) e (joins (ranked g)) i) (omega arith))
 
 -- what level 0 joins, the trees join
 pub ground-trees : (g : WeightedGraph) → IsGraph g → (kind : Kind) (x y : ℕ) → joined (ground g kind) x y ≡ true → joined (trees g.n (ranked g)) x y ≡ true
@@ -318,7 +318,7 @@ ground-trees g h kind x y j =
     let s = ranked g in
     let n = g.n in
     joined_into (ground g kind) (joined (trees g.n (ranked g))) (IsSame-joined (trees g.n (ranked g))) (λ f i.
-    let a = at_most-to (hierarchy_edges (ranked g) (persistences_of g kind)) 0 f i in
+    let a = at_most-to (persistence_edges (ranked g) (persistences_of g kind)) 0 f i in
     let e = in-map (by_persistence (ranked g) (persistences_of g kind)) f (joins (ranked g)) a.0 in
     let w : get_or (persistences_of g kind) (place (ranked g) e.0) 0 ≡ f.weight = ap (λ (k : ListedEdge). k.weight) e.1.1 in
     let light : f.weight ≤ 0 = a.1 in
@@ -381,9 +381,9 @@ trees-ground g h kind x y j =
 
 -- what a hierarchy keeps to
 pub record IsHierarchyOf (g : WeightedGraph) (kind : Kind) : Type 0 where
-  pub apart : AreApart (hierarchy_edges (ranked g) (persistences_of g kind))
-  pub within : AreWithin g.n (hierarchy_edges (ranked g) (persistences_of g kind))
-  pub by_weight : AreByWeight (hierarchy_edges (ranked g) (persistences_of g kind))
+  pub apart : AreApart (persistence_edges (ranked g) (persistences_of g kind))
+  pub within : AreWithin g.n (persistence_edges (ranked g) (persistences_of g kind))
+  pub by_weight : AreByWeight (persistence_edges (ranked g) (persistences_of g kind))
 
 pub hierarchy-list : (g : WeightedGraph) → IsGraph g → (kind : Kind) → IsHierarchyOf g kind
 hierarchy-list g h kind =
@@ -394,21 +394,21 @@ hierarchy-list g h kind =
       by_weight = hierarchy-by_weight (ranked g) o.apart (persistences_of g kind) long;
     }
 
-pub hierarchy-forest : (g : WeightedGraph) → IsGraph g → (kind : Kind) → IsForest (hierarchy_of g kind)
-hierarchy-forest g h kind = let l = hierarchy-list g h kind in tree-forest g.n (hierarchy_edges (ranked g) (persistences_of g kind)) h.some_vertex h.vertices l.apart l.within
+pub hierarchy-forest : (g : WeightedGraph) → IsGraph g → (kind : Kind) → IsWellFormed (hierarchical_of g kind)
+hierarchy-forest g h kind = let l = hierarchy-list g h kind in tree-well_formed g.n (persistence_edges (ranked g) (persistences_of g kind)) h.some_vertex h.vertices l.apart l.within
 
-pub hierarchy-rises : (g : WeightedGraph) → IsGraph g → (kind : Kind) → AltitudesRise (hierarchy_of g kind)
-hierarchy-rises g h kind = let l = hierarchy-list g h kind in tree-rises g.n (hierarchy_edges (ranked g) (persistences_of g kind)) l.apart l.by_weight
+pub hierarchy-rises : (g : WeightedGraph) → IsGraph g → (kind : Kind) → AltitudesRise (hierarchical_of g kind)
+hierarchy-rises g h kind = let l = hierarchy-list g h kind in tree-rises g.n (persistence_edges (ranked g) (persistences_of g kind)) l.apart l.by_weight
 
 -- vertices share a node of altitude 0 exactly where they have one label
-pub level-zero : (g : WeightedGraph) → IsGraph g → (kind : Kind) (x y : ℕ) → x < g.n → y < g.n → Shares (hierarchy_of g kind) 0 x y ↔ (tree_label g.n (ranked g) x ≡ tree_label g.n (ranked g) y)
+pub level-zero : (g : WeightedGraph) → IsGraph g → (kind : Kind) (x y : ℕ) → x < g.n → y < g.n → Shares (hierarchical_of g kind) 0 x y ↔ (tree_label g.n (ranked g) x ≡ tree_label g.n (ranked g) y)
 level-zero g h kind x y hx hy =
     let s = ranked g in
     let n = g.n in
     let o = of-graph g h in
     let l = hierarchy-list g h kind in
-    let levels = level-tree g.n (hierarchy_edges (ranked g) (persistences_of g kind)) l.apart l.within l.by_weight in
-    let shared = shares-joined (hierarchy_of g kind) (hierarchy_edges (ranked g) (persistences_of g kind)) levels 0 x y hx hy in
+    let levels = level-tree g.n (persistence_edges (ranked g) (persistences_of g kind)) l.apart l.within l.by_weight in
+    let shared = shares-joined (hierarchical_of g kind) (persistence_edges (ranked g) (persistences_of g kind)) levels 0 x y hx hy in
     let labels = tree-label_same n s o.apart o.within x y hx hy in (
       λ sh. labels.1 (Joined-joined (trees n s) x y (ground-trees g h kind x y (holds (ground g kind) x y (shared.0 sh)))),
       λ same. shared.1 (Joined-joined (ground g kind) x y (trees-ground g h kind x y (holds (trees n s) x y (labels.0 same)))),

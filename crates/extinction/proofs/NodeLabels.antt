@@ -16,13 +16,13 @@ use Rattle.watershed_cut.specs.MinimumTests.{is_minimum, in_minimum, minimum_cou
 use Rattle.watershed_cut.specs.MinimumLabels.{numbered, minima_of}
 use Rattle.watershed_cut.proofs.GraphForest.{ranked-numbered}
 use Rattle.watershed_cut.proofs.MinimumWalks.{level-from, minimum-to, minimum-from, same_minimum-from}
-use Rattle.watershed_cut.proofs.NearLaws.{above-joined}
+use Rattle.watershed_cut.proofs.HolderLaws.{above-joined}
 use Rattle.watershed_cut.proofs.NodeLabels.{maker-of}
 use Rattle.watershed_cut.proofs.TreeLabels.{label-equal, label-range}
 use Rattle.watershed_cut.specs.Minima.{level, IsMinimumEdge}
-use Rattle.extinction.specs.Passes.{node_label, IsLast}
+use Rattle.extinction.specs.NodeSurvivors.{node_label, IsLastLabelled}
 use Rattle.extinction.proofs.TreeFacts.{of-graph}
-use Rattle.extinction.proofs.Bottoms.{IsBottom, bottom-label, inside-minimum}
+use Rattle.extinction.proofs.LowestHolders.{IsBottom, bottom-label, inside-minimum}
 
 -- the label of a vertex is read from the list
 pub vertex-read : (g : WeightedGraph) (x : ℕ) → x < g.n → get_or (minima_of g).vertices x 0 ≡ vertex_label g.n (ranked g) x
@@ -113,7 +113,7 @@ bottom-last g h label q j some' b hj own = elim (leaf_or_made g.n (ranked g) (of
 ]
 
 -- so the last node with a label is the lowest that holds its minimum
-pub last-bottom : (g : WeightedGraph) → IsGraph g → (label i : ℕ) → IsLabel (minimum_count g.n (ranked g)) label → IsLast (graph_tree g) (minima_of g) label i → IsBottom g label i
+pub last-bottom : (g : WeightedGraph) → IsGraph g → (label i : ℕ) → IsLabel (minimum_count g.n (ranked g)) label → IsLastLabelled (graph_tree g) (minima_of g) label i → IsBottom g label i
 last-bottom g h label i is last =
     let q = bottom-label g h label is in
     let some' : 1 ≤ label = is.positive in

@@ -8,7 +8,7 @@ use Rattle.watershed_cut.specs.MinimumLabels.{LabelledMinima, minima_of}
 use Rattle.extinction.specs.Values.{values_of, AreOf, AreOfOne}
 use Rattle.extinction.specs.Persistence.{persistences, persistences_of}
 use Rattle.extinction.specs.Survivors.{extinctions, extinctions_of}
-use Rattle.extinction.specs.Passes.{HasTwoEach}
+use Rattle.extinction.specs.NodeSurvivors.{HasTwoEach}
 use Rattle.extinction.specs.declared.kind.Kind.{Kind}
 use Rattle.extinction.proofs.TreeFacts.{inner-two}
 

@@ -15,14 +15,14 @@ use Rattle.watershed_cut.specs.MinimumLabels.{LabelledMinima, minima_of}
 use Rattle.watershed_cut.specs.MinimumTests.{minimum_count}
 use Rattle.extinction.specs.Values.{AreOfMinima}
 use Rattle.extinction.specs.Holding.{holds_minimum, holds, child_holds}
-use Rattle.extinction.specs.Passes.{node_label, AreLowest, AreOwnLabels}
+use Rattle.extinction.specs.NodeSurvivors.{node_label, AreLowest, AreOwnLabels}
 use Rattle.extinction.proofs.SideLemmas.{child-found}
 use Rattle.extinction.proofs.TreeFacts.{IsOfGraph, of-graph, inner-two}
 use Rattle.extinction.proofs.HoldLemmas.{holds_minimum-from, holds_minimum-to, find-none, found-in, child_holds-from}
-use Rattle.extinction.proofs.Bottoms.{IsBottom, bottom-label, bottom-one, bottom-same, over-bottom}
+use Rattle.extinction.proofs.LowestHolders.{IsBottom, bottom-label, bottom-one, bottom-same, over-bottom}
 use Rattle.extinction.proofs.NodeLabels.{vertex-read, bottom-labelled, last-bottom}
 use Rattle.extinction.proofs.LevelZero.{bottom-holds}
-use Rattle.watershed_cut.proofs.AnyIn.{range-to}
+use Rattle.partition_tree.proofs.ListTests.{range-to}
 use Rattle.hg_base.proofs.Leasts.{first_of}
 use Rattle.std.specs.List.{range_with_len}
 

@@ -5,11 +5,11 @@ use Rattle.std.proofs.lemmas.Bool.{cases_eq}
 use Rattle.std.proofs.lemmas.List.{get_or-set_same, get_or-set_other, length-set}
 use Rattle.hg_base.specs.Edges.{count_below}
 use Rattle.hg_base.specs.Tree.{ParentTree, parent}
-use Rattle.partition_tree.specs.Forest.{IsForest}
+use Rattle.partition_tree.specs.TreeLists.{IsWellFormed}
 use Rattle.partition_tree.specs.Children.{is_child, IsChildAt}
 use Rattle.partition_tree.proofs.ChildLemmas.{count-same, child-is, child-root, child-parent, child-other, child-counted, child-uncounted}
 use Rattle.extinction.specs.Holding.{child}
-use Rattle.extinction.specs.Passes.{HasTwoEach, pair_of, AreChildPairs}
+use Rattle.extinction.specs.NodeSurvivors.{HasTwoEach, pair_of, AreChildPairs}
 use Rattle.extinction.proofs.HoldLemmas.{child-there}
 
 -- a slice that was written back into the list that it is the whole of
@@ -22,7 +22,7 @@ pub record ArePairsTo (t : ParentTree) (j : ℕ) (pairs : List (ℕ × ℕ)) : T
   pub last : (i x : ℕ) → t.leaves ≤ i → i < length t.parents → x < j → is_child t i x ≡ true → count_below (is_child t i) x + 1 ≡ count_below (is_child t i) j → (pair_of t pairs i).1 ≡ x
   pub before : (i x : ℕ) → t.leaves ≤ i → i < length t.parents → x < j → is_child t i x ≡ true → count_below (is_child t i) x + 2 ≡ count_below (is_child t i) j → (pair_of t pairs i).0 ≡ x
 
-pub pairs-first : (t : ParentTree) (pairs : List (ℕ × ℕ)) → IsForest t → length pairs ≡ length t.parents - t.leaves → ArePairsTo t 0 pairs
+pub pairs-first : (t : ParentTree) (pairs : List (ℕ × ℕ)) → IsWellFormed t → length pairs ≡ length t.parents - t.leaves → ArePairsTo t 0 pairs
 pairs-first t pairs f long = record {
   one_each = (let k = f.one_maker_each in omega arith);
   last = λ i x a b low c e. absurd (omega arith);
@@ -44,7 +44,7 @@ pairs-root t j pairs root a = record {
     earlier i x low c = let other : x ≢ j = λ at. child-other t i x c (ap (parent t) at ∙ root ∙ sym at) in grind (arith, low, other)
 
 -- one more child
-pub pairs-more : (t : ParentTree) → IsForest t → (j p at : ℕ) (pairs new : List (ℕ × ℕ)) → j < length t.parents → p ≡ parent t j → p ≢ j → at ≡ p - t.leaves → ArePairsTo t j pairs →
+pub pairs-more : (t : ParentTree) → IsWellFormed t → (j p at : ℕ) (pairs new : List (ℕ × ℕ)) → j < length t.parents → p ≡ parent t j → p ≢ j → at ≡ p - t.leaves → ArePairsTo t j pairs →
     new ≡ set pairs at ((get_or pairs at (0, 0)).1, j) → ArePairsTo t (j + 1) new
 pairs-more t f j p at pairs new hj up other place' a made = record {
   one_each = (let e : length new ≡ length pairs = ap length made ∙ length-set pairs at own in let k : t.leaves + length pairs ≡ length t.parents = a.one_each in omega arith);
@@ -107,7 +107,7 @@ pairs-more t f j p at pairs new hj up other place' a made = record {
         ap (λ (q : ℕ × ℕ). q.0) (here i same) ∙ ap (λ (k : ℕ). (get_or pairs k (0, 0)).1) (sym place) ∙ a.last i x inner hi (grind (arith, low, away)) c (omega arith)
 
 -- so at the end for every inner node
-pub pairs-all : (t : ParentTree) → IsForest t → HasTwoEach t → (j : ℕ) (pairs : List (ℕ × ℕ)) → j ≡ length t.parents → ArePairsTo t j pairs → AreChildPairs t pairs
+pub pairs-all : (t : ParentTree) → IsWellFormed t → HasTwoEach t → (j : ℕ) (pairs : List (ℕ × ℕ)) → j ≡ length t.parents → ArePairsTo t j pairs → AreChildPairs t pairs
 pairs-all t f two j pairs end a = record {
   one_each = a.one_each;
   two = two;

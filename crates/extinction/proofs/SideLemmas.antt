@@ -25,9 +25,9 @@ use Rattle.hg_base.proofs.Sets.{IsIn-joins, IsIn-joins_kept}
 use Rattle.hg_base.proofs.TreeNodes.{made-within}
 use Rattle.hg_base.proofs.Walks.{IsSame-joined, Joined-joined}
 use Rattle.partition_tree.specs.Children.{is_child, child_count, IsChildAt}
-use Rattle.partition_tree.specs.Forest.{IsForest}
+use Rattle.partition_tree.specs.TreeLists.{IsWellFormed}
 use Rattle.partition_tree.proofs.ChildLemmas.{count-yes, count-same, child-is, child-parent, child-other}
-use Rattle.partition_tree.proofs.ForestClimbs.{forest-climbs}
+use Rattle.partition_tree.proofs.WellFormed.{well_formed-climbs}
 use Rattle.watershed_cut.specs.Minima.{IsEnd}
 use Rattle.extinction.specs.Holding.{child}
 
@@ -82,7 +82,7 @@ count-two p n a b two =
     omega (arith, before, one, same)
 
 -- a leaf has no child
-pub leaf-childless : (t : ParentTree) → IsForest t → (x : ℕ) → x < t.leaves → child_count t x ≡ 0
+pub leaf-childless : (t : ParentTree) → IsWellFormed t → (x : ℕ) → x < t.leaves → child_count t x ≡ 0
 leaf-childless t f x h = count_below-zero (is_child t x) (length t.parents) (λ j hj. false_from_ne_true (is_child t x j) (λ c.
     let inner : t.leaves ≤ parent t j = f.inner j hj (child-other t x j c) in
     let own : parent t j ≡ x = child-parent t x j c in omega arith))
@@ -166,7 +166,7 @@ side-either n s h e i a b y sides hy over =
     ]
 
 -- each child of the node is one of its sides
-pub child-side : (n : ℕ) (s : EdgeList) → AreApart s → (e : ListedEdge) → IsIn e (joins s) → (a b : ℕ) → AreSides n s e a b → IsForest (tree_of n s) →
+pub child-side : (n : ℕ) (s : EdgeList) → AreApart s → (e : ListedEdge) → IsIn e (joins s) → (a b : ℕ) → AreSides n s e a b → IsWellFormed (tree_of n s) →
     ((i : ℕ) → i < length (tree_of n s).parents → (x : ℕ) × ((x < n) × IsAbove (tree_of n s) i x)) →
     (j : ℕ) → j < length (tree_of n s).parents → is_child (tree_of n s) (n + place s e) j ≡ true → (j ≡ a) ⊎ (j ≡ b)
 child-side n s h e i a b sides f leaf j hj own =
@@ -179,7 +179,7 @@ child-side n s h e i a b sides f leaf j hj own =
     t = tree_of n s
 
     c : IsClimbing t
-    c = forest-climbs t f
+    c = well_formed-climbs t f
 
     up : parent t j ≡ n + place s e
     up = child-parent t (n + place s e) j own
@@ -217,7 +217,7 @@ side-child n s e w a side =
     let less : a < n + place s e = side.less in
     child-is (tree_of n s) (n + place s e) a side.parent_is (λ (same : parent (tree_of n s) a ≡ a). absurd (let up : parent (tree_of n s) a ≡ n + place s e = side.parent_is in omega arith))
 
-pub children-of : (n : ℕ) (s : EdgeList) → AreApart s → AreWithin n s → (e : ListedEdge) → IsIn e (joins s) → IsForest (tree_of n s) →
+pub children-of : (n : ℕ) (s : EdgeList) → AreApart s → AreWithin n s → (e : ListedEdge) → IsIn e (joins s) → IsWellFormed (tree_of n s) →
     ((i : ℕ) → i < length (tree_of n s).parents → (x : ℕ) × ((x < n) × IsAbove (tree_of n s) i x)) → (a : ℕ) × ((b : ℕ) × AreChildrenOf n s e a b)
 children-of n s h within e i f leaf =
     elim (cases_order a b) [

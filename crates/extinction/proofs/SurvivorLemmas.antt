@@ -4,7 +4,7 @@ use Rattle.std.specs.Prelude.{◌↔◌, ◌==◌, ◌&&◌, ◌||◌, nat_lt}
 use Rattle.std.proofs.lemmas.Bool.{cases_Bool, cases_order, both_ways, cond-true}
 use Rattle.hg_base.specs.Labels.{IsLabel}
 use Rattle.hg_base.specs.Tree.{ParentTree}
-use Rattle.partition_tree.specs.Forest.{IsForest}
+use Rattle.partition_tree.specs.TreeLists.{IsWellFormed}
 use Rattle.watershed_cut.specs.MinimumLabels.{LabelledMinima}
 use Rattle.extinction.specs.Holding.{holds, least_held, child, child_holds, both_hold}
 use Rattle.extinction.specs.Survivors.{dies, living, survivor_after, table, survivors, survivor}
@@ -74,7 +74,7 @@ outcome-from P false true a b x y own h k o = k refl
 outcome-from P false false a b x y own h k o = o refl refl
 
 -- lists that agree below node i give it one survivor
-pub after-agree : (t : ParentTree) (m : LabelledMinima) (values before after : List ℕ) → IsForest t → (i : ℕ) → ((j : ℕ) → j < i → get_or before j 0 ≡ get_or after j 0) →
+pub after-agree : (t : ParentTree) (m : LabelledMinima) (values before after : List ℕ) → IsWellFormed t → (i : ℕ) → ((j : ℕ) → j < i → get_or before j 0 ≡ get_or after j 0) →
     survivor_after t m values before i ≡ survivor_after t m values after i
 after-agree t m values before after f i agree =
     after-outcome t m values before i
@@ -85,7 +85,7 @@ after-agree t m values before after f i agree =
     at k h = agree (child t i k) (child-there t f i k (child_holds-to t m i k h).0).less
 
 -- the survivor of a node by those of its children
-pub survivor-by : (t : ParentTree) (m : LabelledMinima) (values before : List ℕ) → IsForest t → (i : ℕ) → i < length t.parents → ((j : ℕ) → j < i → get_or before j 0 ≡ survivor t m values j) →
+pub survivor-by : (t : ParentTree) (m : LabelledMinima) (values before : List ℕ) → IsWellFormed t → (i : ℕ) → i < length t.parents → ((j : ℕ) → j < i → get_or before j 0 ≡ survivor t m values j) →
     survivor_after t m values before i ≡ survivor t m values i
 survivor-by t m values before f i hi agree =
     let entry = survivor_after t m values in
@@ -93,15 +93,15 @@ survivor-by t m values before f i hi agree =
     (λ j h. agree j h ∙ table-kept (survivor_after t m values) i (length t.parents) j (omega arith) h)
     ∙ sym (table-at (survivor_after t m values) (length t.parents) i hi)
 
-pub survivor-step : (t : ParentTree) (m : LabelledMinima) (values : List ℕ) → IsForest t → (i : ℕ) → i < length t.parents → survivor t m values i ≡ survivor_after t m values (survivors t m values) i
+pub survivor-step : (t : ParentTree) (m : LabelledMinima) (values : List ℕ) → IsWellFormed t → (i : ℕ) → i < length t.parents → survivor t m values i ≡ survivor_after t m values (survivors t m values) i
 survivor-step t m values f i hi = sym (survivor-by t m values (survivors t m values) f i hi (λ j h. refl))
 
-pub survivor-outcome : (t : ParentTree) (m : LabelledMinima) (values : List ℕ) → IsForest t → (i : ℕ) → i < length t.parents →
+pub survivor-outcome : (t : ParentTree) (m : LabelledMinima) (values : List ℕ) → IsWellFormed t → (i : ℕ) → i < length t.parents →
     survivor t m values i ≡ outcome (child_holds t m i 0) (child_holds t m i 1) (get_or values (child t i 0) 0) (get_or values (child t i 1) 0) (survivor t m values (child t i 0)) (survivor t m values (child t i 1)) (least_held t m i)
 survivor-outcome t m values f i hi = survivor-step t m values f i hi ∙ after-outcome t m values (survivors t m values) i
 
 -- a node that holds has a label as survivor
-label-to : (t : ParentTree) (m : LabelledMinima) (values : List ℕ) → IsForest t → (bound i : ℕ) → i < bound → i < length t.parents → holds t m i ≡ true → IsLabel m.count (survivor t m values i)
+label-to : (t : ParentTree) (m : LabelledMinima) (values : List ℕ) → IsWellFormed t → (bound i : ℕ) → i < bound → i < length t.parents → holds t m i ≡ true → IsLabel m.count (survivor t m values i)
 label-to t m values f zero i low hi h = absurd (omega arith)
 label-to t m values f (suc b) i low hi h =
     let down : (j : ℕ) → j < b → j < length t.parents → holds t m j ≡ true → IsLabel m.count (survivor t m values j) = λ j l hj k. label-to t m values f b j l hj k in
@@ -116,18 +116,18 @@ label-to t m values f (suc b) i low hi h =
         let less : child t i k < i = at.less in
         down (child t i k) (omega arith) at.node p.1
 
-pub survivor-label : (t : ParentTree) (m : LabelledMinima) (values : List ℕ) → IsForest t → (i : ℕ) → i < length t.parents → holds t m i ≡ true → IsLabel m.count (survivor t m values i)
+pub survivor-label : (t : ParentTree) (m : LabelledMinima) (values : List ℕ) → IsWellFormed t → (i : ℕ) → i < length t.parents → holds t m i ≡ true → IsLabel m.count (survivor t m values i)
 survivor-label t m values f i hi h = label-to t m values f (suc i) i (omega arith) hi h
 
 -- and one that holds none has 0
-pub survivor-none : (t : ParentTree) (m : LabelledMinima) (values : List ℕ) → IsForest t → (i : ℕ) → i < length t.parents → holds t m i ≡ false → survivor t m values i ≡ 0
+pub survivor-none : (t : ParentTree) (m : LabelledMinima) (values : List ℕ) → IsWellFormed t → (i : ℕ) → i < length t.parents → holds t m i ≡ false → survivor t m values i ≡ 0
 survivor-none t m values f i hi h =
     survivor-outcome t m values f i hi
     ∙ outcome-from (λ (z : ℕ). z ≡ 0) (child_holds t m i 0) (child_holds t m i 1) (get_or values (child t i 0) 0) (get_or values (child t i 1) 0) (survivor t m values (child t i 0)) (survivor t m values (child t i 1)) (least_held t m i)
     (λ c. absurd (both_ways _ h (child_holds-up t m f i 0 c))) (λ c. absurd (both_ways _ h (child_holds-up t m f i 1 c))) (λ p q. least-none t m i h)
 
 -- a node holds exactly where its survivor isn't 0
-pub survivor-zero : (t : ParentTree) (m : LabelledMinima) (values : List ℕ) → IsForest t → (i : ℕ) → i < length t.parents → (survivor t m values i ≡ 0) ↔ (holds t m i ≡ false)
+pub survivor-zero : (t : ParentTree) (m : LabelledMinima) (values : List ℕ) → IsWellFormed t → (i : ℕ) → i < length t.parents → (survivor t m values i ≡ 0) ↔ (holds t m i ≡ false)
 survivor-zero t m values f i hi = (
   λ zero'. elim (cases_Bool (holds t m i)) [
     | inl h ↦ absurd (let some' : 1 ≤ survivor t m values i = (survivor-label t m values f i hi h).positive in omega arith)
@@ -137,14 +137,14 @@ survivor-zero t m values f i hi = (
 )
 
 -- the four cases
-pub survivor-both : (t : ParentTree) (m : LabelledMinima) (values : List ℕ) → IsForest t → (i : ℕ) → i < length t.parents → both_hold t m i ≡ true → survivor t m values i ≡ survivor t m values (living t values (survivors t m values) i)
+pub survivor-both : (t : ParentTree) (m : LabelledMinima) (values : List ℕ) → IsWellFormed t → (i : ℕ) → i < length t.parents → both_hold t m i ≡ true → survivor t m values i ≡ survivor t m values (living t values (survivors t m values) i)
 survivor-both t m values f i hi h = survivor-step t m values f i hi ∙ cond-true (both_hold t m i) _ _ h
 
-pub survivor-first : (t : ParentTree) (m : LabelledMinima) (values : List ℕ) → IsForest t → (i : ℕ) → i < length t.parents → child_holds t m i 0 ≡ true → child_holds t m i 1 ≡ false → survivor t m values i ≡ survivor t m values (child t i 0)
+pub survivor-first : (t : ParentTree) (m : LabelledMinima) (values : List ℕ) → IsWellFormed t → (i : ℕ) → i < length t.parents → child_holds t m i 0 ≡ true → child_holds t m i 1 ≡ false → survivor t m values i ≡ survivor t m values (child t i 0)
 survivor-first t m values f i hi p q = survivor-outcome t m values f i hi ∙ rw (p, q) refl
 
-pub survivor-second : (t : ParentTree) (m : LabelledMinima) (values : List ℕ) → IsForest t → (i : ℕ) → i < length t.parents → child_holds t m i 0 ≡ false → child_holds t m i 1 ≡ true → survivor t m values i ≡ survivor t m values (child t i 1)
+pub survivor-second : (t : ParentTree) (m : LabelledMinima) (values : List ℕ) → IsWellFormed t → (i : ℕ) → i < length t.parents → child_holds t m i 0 ≡ false → child_holds t m i 1 ≡ true → survivor t m values i ≡ survivor t m values (child t i 1)
 survivor-second t m values f i hi p q = survivor-outcome t m values f i hi ∙ rw (p, q) refl
 
-pub survivor-own : (t : ParentTree) (m : LabelledMinima) (values : List ℕ) → IsForest t → (i : ℕ) → i < length t.parents → child_holds t m i 0 ≡ false → child_holds t m i 1 ≡ false → survivor t m values i ≡ least_held t m i
+pub survivor-own : (t : ParentTree) (m : LabelledMinima) (values : List ℕ) → IsWellFormed t → (i : ℕ) → i < length t.parents → child_holds t m i 0 ≡ false → child_holds t m i 1 ≡ false → survivor t m values i ≡ least_held t m i
 survivor-own t m values f i hi p q = survivor-outcome t m values f i hi ∙ rw (p, q) refl

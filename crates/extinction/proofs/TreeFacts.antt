@@ -9,10 +9,10 @@ use Rattle.hg_base.specs.Levels.{IsClimbing, IsLevelTree}
 use Rattle.hg_base.proofs.FrontOnce.{leaf_or_made}
 use Rattle.hg_base.proofs.Levels.{level-tree}
 use Rattle.hg_base.proofs.Ranked.{AreApart-ranked, AreWithin-ranked, AreByWeight-ranked}
-use Rattle.partition_tree.specs.Forest.{IsForest}
+use Rattle.partition_tree.specs.TreeLists.{IsWellFormed}
 use Rattle.partition_tree.specs.Children.{child_count}
-use Rattle.partition_tree.proofs.ForestClimbs.{forest-climbs}
-use Rattle.partition_tree.proofs.TreeLemmas.{tree-forest}
+use Rattle.partition_tree.proofs.WellFormed.{well_formed-climbs}
+use Rattle.partition_tree.proofs.TreeLemmas.{tree-well_formed}
 use Rattle.extinction.proofs.SideLemmas.{AreChildrenOf, children-of}
 
 -- the tree of a graph and its ranked edges
@@ -20,7 +20,7 @@ pub record IsOfGraph (g : WeightedGraph) : Type 0 where
   pub apart : AreApart (ranked g)
   pub within : AreWithin g.n (ranked g)
   pub by_weight : AreByWeight (ranked g)
-  pub forest : IsForest (graph_tree g)
+  pub well_formed : IsWellFormed (graph_tree g)
   pub climbs : IsClimbing (graph_tree g)
   pub levels : IsLevelTree (graph_tree g) (ranked g)
 
@@ -28,12 +28,12 @@ pub of-graph : (g : WeightedGraph) → IsGraph g → IsOfGraph g
 of-graph g h =
     let apart = AreApart-ranked g in
     let within = AreWithin-ranked g h in
-    let forest = tree-forest g.n (ranked g) h.some_vertex h.vertices apart within in record {
+    let forest = tree-well_formed g.n (ranked g) h.some_vertex h.vertices apart within in record {
       apart = apart;
       within = within;
       by_weight = AreByWeight-ranked g;
       forest = forest;
-      climbs = forest-climbs (graph_tree g) forest;
+      climbs = well_formed-climbs (graph_tree g) forest;
       levels = level-tree g.n (ranked g) apart within (AreByWeight-ranked g);
     }
 

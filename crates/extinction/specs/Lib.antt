@@ -2,7 +2,7 @@ pub mod Values
 pub mod Holding
 pub mod Persistence
 pub mod Survivors
-pub mod Hierarchy
+pub mod HierarchicalWatershed
 pub mod Report
-pub mod Passes
-pub mod Turns
+pub mod NodeSurvivors
+pub mod PersistenceOrder

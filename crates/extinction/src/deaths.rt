@@ -2,7 +2,7 @@ ghost use Rattle.std.specs.Prelude.{◌≡◌, ℕ, ◌<◌, length, replicate, 
 ghost use Rattle.hg_base.specs.Graph.{WeightedGraph};
 ghost use Rattle.extinction.specs.Values.{values_of, AreOf, AreOfOne};
 ghost use Rattle.extinction.specs.Survivors.{extinctions_of};
-ghost use Rattle.extinction.specs.Passes.{dying_after, AreSurvivors, AreRootsFrom, AreDeathsFrom};
+ghost use Rattle.extinction.specs.NodeSurvivors.{dying_after, AreSurvivors, AreRootsFrom, AreDeathsFrom};
 
 use crate::kind::Kind;
 use crate::pairs::children;

@@ -1,8 +1,8 @@
 //! Persistences of a tree's nodes, extinctions of minima, and the hierarchical watershed of a graph.
 #![tactic(auto)]
 
+mod by_persistence;
 mod deaths;
-mod hierarchy;
 mod kind;
 mod laws;
 mod lowest;
@@ -11,11 +11,11 @@ mod persist;
 mod report;
 mod survive;
 
+pub use by_persistence::hierarchical;
 pub use deaths::extinctions;
-pub use hierarchy::hierarchical;
 pub use kind::Kind;
 pub use laws::{
-    children_are_two, hierarchy_is_a_forest, holding_by_paths, level_zero_is_the_watershed,
+    children_are_two, hierarchical_is_well_formed, holding_by_paths, level_zero_is_the_watershed,
     survivors_live_on,
 };
 pub use persist::persistence;

@@ -1,7 +1,7 @@
 ghost use Rattle.std.specs.Prelude.{◌≡◌, ◌<◌, ◌≤◌, length, IfOk};
-ghost use Rattle.partition_tree.specs.Forest.{nodes};
+ghost use Rattle.partition_tree.specs.TreeLists.{nodes};
 ghost use Rattle.extinction.specs.Values.{AreOfMinima};
-ghost use Rattle.extinction.specs.Passes.{node_label, AreLowest, AreOwnLabels};
+ghost use Rattle.extinction.specs.NodeSurvivors.{node_label, AreLowest, AreOwnLabels};
 
 use partition_tree::Tree;
 use std::alloc::{AllocError, Global};

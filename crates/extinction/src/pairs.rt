@@ -1,7 +1,7 @@
 ghost use Rattle.std.specs.Prelude.{◌≡◌, ◌<◌, ◌≤◌, length, slice_set, IfOk};
 ghost use Rattle.std.specs.List.{slice_index_or};
-ghost use Rattle.partition_tree.specs.Forest.{nodes};
-ghost use Rattle.extinction.specs.Passes.{HasTwoEach, pair_of, AreChildPairs};
+ghost use Rattle.partition_tree.specs.TreeLists.{nodes};
+ghost use Rattle.extinction.specs.NodeSurvivors.{HasTwoEach, pair_of, AreChildPairs};
 
 use partition_tree::Tree;
 use std::alloc::{AllocError, Global};

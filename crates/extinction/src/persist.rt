@@ -2,7 +2,7 @@ ghost use Rattle.std.specs.Prelude.{◌≡◌, ℕ, ◌<◌, ◌≤◌, length, 
 ghost use Rattle.hg_base.specs.Graph.{WeightedGraph};
 ghost use Rattle.extinction.specs.Values.{values_of, AreOf, AreOfOne};
 ghost use Rattle.extinction.specs.Persistence.{persistences_of};
-ghost use Rattle.extinction.specs.Passes.{value_after};
+ghost use Rattle.extinction.specs.NodeSurvivors.{value_after};
 
 use crate::kind::Kind;
 use crate::pairs::children;

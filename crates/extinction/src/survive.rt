@@ -1,7 +1,7 @@
 ghost use Rattle.std.specs.Prelude.{◌≡◌, ◌<◌, ◌≤◌, length, slice_index, IfOk};
 ghost use Rattle.extinction.specs.Values.{values_of, AreOfOne};
 ghost use Rattle.extinction.specs.Survivors.{dies};
-ghost use Rattle.extinction.specs.Passes.{label_after, AreSurvivors};
+ghost use Rattle.extinction.specs.NodeSurvivors.{label_after, AreSurvivors};
 
 use crate::kind::Kind;
 use crate::lowest::own_labels;

@@ -9,7 +9,7 @@ use Rattle.hg_base.specs.Rank.{listed, number_at, ranked}
 use Rattle.hg_base.specs.Tree.{ParentTree, graph_tree}
 use Rattle.hg_base.proofs.Ranked.{AreApart-ranked, AreByWeight-ranked}
 use Rattle.merge_board.specs.Seats.{ReceiptState}
-use Rattle.partition_tree.specs.Forest.{IsForest}
+use Rattle.partition_tree.specs.TreeLists.{IsWellFormed}
 use Rattle.partition_tree.proofs.TreeLemmas.{tree-rises}
 use Rattle.tile_plan.specs.Plan.{IsAnswer, TilePlan, tile_count}
 use Rattle.tile_plan.specs.declared.fault.PlanFault.{PlanFault}
@@ -22,7 +22,7 @@ use Rattle.graph_hierarchy.specs.declared.tiling.Tiling.{Tiling}
 use Rattle.graph_hierarchy.specs.declared.tiling.Tiling.TheVariants.{Blocks, Squares}
 
 -- the tree of a graph
-pub tree_is : (g : WeightedGraph) (t : ParentTree) → IsGraph g → t ≡ graph_tree g → IsForest t → IsTreeOf g t
+pub tree_is : (g : WeightedGraph) (t : ParentTree) → IsGraph g → t ≡ graph_tree g → IsWellFormed t → IsTreeOf g t
 tree_is g t graph same forest = record { same = same; forest = forest; rises = subst AltitudesRise (sym same) (tree-rises g.n (ranked g) (AreApart-ranked g) (AreByWeight-ranked g)); graph = graph }
 
 -- the plan of a graph is over its vertices and its ranked edges

@@ -4,7 +4,7 @@ use Rattle.edge_order.specs.Order.{order_of}
 use Rattle.hg_base.specs.Graph.{WeightedGraph, IsGraph}
 use Rattle.hg_base.specs.Levels.{AltitudesRise}
 use Rattle.hg_base.specs.Tree.{ParentTree, graph_tree}
-use Rattle.partition_tree.specs.Forest.{IsForest}
+use Rattle.partition_tree.specs.TreeLists.{IsWellFormed}
 use Rattle.tile_plan.specs.Plan.{tile_count}
 use Rattle.tile_plan.specs.declared.fault.PlanFault.{PlanFault}
 use Rattle.tile_plan.specs.declared.fault.PlanFault.TheVariants as plans
@@ -17,7 +17,7 @@ use Rattle.graph_hierarchy.specs.declared.tiling.Tiling.{Tiling}
 -- the tree is that of the graph, with what is asked for by all that reads it
 pub record IsTreeOf (g : WeightedGraph) (t : ParentTree) : Type 0 where
   pub same : t ≡ graph_tree g
-  pub forest : IsForest t
+  pub well_formed : IsWellFormed t
   pub rises : AltitudesRise t
   pub graph : IsGraph g
 

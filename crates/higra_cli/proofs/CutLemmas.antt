@@ -1,6 +1,6 @@
 -- The regions of the trees that are cut.
 use Rattle.std.proofs.Common.{◌≡◌, ℕ, Option, Some, None, refl, ap, sym, ◌∙◌}
-use Rattle.extinction.specs.Hierarchy.{hierarchy_of}
+use Rattle.extinction.specs.HierarchicalWatershed.{hierarchical_of}
 use Rattle.extinction.specs.declared.kind.Kind.{Kind}
 use Rattle.hg_base.specs.Graph.{WeightedGraph}
 use Rattle.hg_base.specs.Tree.{ParentTree, graph_tree}
@@ -13,7 +13,7 @@ pub regions_own : (g : WeightedGraph) (t : ParentTree) (kind : Option Kind) (lev
 regions_own g t kind level own same = ap (λ (u : ParentTree). regions u level) (same ∙ ap (λ (k : Option Kind). cut_tree k g) (sym own))
 
 -- and of its hierarchical watershed
-pub regions_by : (g : WeightedGraph) (t : ParentTree) (kinds : Option Kind) (kind : Kind) (level : ℕ) → kinds ≡ Some kind → t ≡ hierarchy_of g kind → regions t level ≡ regions (cut_tree kinds g) level
+pub regions_by : (g : WeightedGraph) (t : ParentTree) (kinds : Option Kind) (kind : Kind) (level : ℕ) → kinds ≡ Some kind → t ≡ hierarchical_of g kind → regions t level ≡ regions (cut_tree kinds g) level
 regions_by g t kinds kind level some same = ap (λ (u : ParentTree). regions u level) (same ∙ ap (λ (k : Option Kind). cut_tree k g) (sym some))
 
 -- a tree that is cut has the graph's vertices as leaves

@@ -16,7 +16,7 @@ use Rattle.hg_base.specs.declared.graph.Edge.{Edge}
 use Rattle.hg_base.specs.Graph.{WeightedGraph, IsGraph}
 use Rattle.hg_base.specs.Levels.{is_above}
 use Rattle.hg_base.specs.Tree.{ParentTree, altitude, graph_tree}
-use Rattle.partition_tree.specs.Forest.{nodes}
+use Rattle.partition_tree.specs.TreeLists.{nodes}
 use Rattle.graph_hierarchy.specs.Hierarchies.{IsTreeOf}
 use Rattle.higra_cli.specs.Reports.{graph_energies, graph_energy_cut}
 

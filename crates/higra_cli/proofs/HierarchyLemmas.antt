@@ -11,11 +11,11 @@ use Rattle.hg_base.proofs.FrontOnce.{front-tree}
 use Rattle.hg_base.proofs.Ranked.{AreApart-ranked, AreWithin-ranked}
 use Rattle.hg_base.proofs.Saliencies.{saliency-is}
 use Rattle.energy_cut.proofs.Chosen.{least-is}
-use Rattle.extinction.specs.Hierarchy.{hierarchy_of}
+use Rattle.extinction.specs.HierarchicalWatershed.{hierarchical_of}
 use Rattle.extinction.specs.declared.kind.Kind.{Kind}
 use Rattle.extinction.proofs.LevelZero.{level-zero}
-use Rattle.partition_tree.specs.Forest.{IsForest}
-use Rattle.partition_tree.proofs.TreeLemmas.{tree-forest}
+use Rattle.partition_tree.specs.TreeLists.{IsWellFormed}
+use Rattle.partition_tree.proofs.TreeLemmas.{tree-well_formed}
 use Rattle.watershed_cut.specs.Watershed.{tree_label, watershed_of}
 use Rattle.watershed_cut.proofs.PlantedTrees.{watershed-is}
 use Rattle.higra_cli.specs.Reports.{graph_energies}
@@ -23,17 +23,17 @@ use Rattle.higra_cli.specs.Running.{BeginsAtWatershed, IsHierarchy}
 use Rattle.higra_cli.proofs.AltitudeLemmas.{altitudes-are}
 
 -- the tree of a graph is a forest
-pub graph-forest : (g : WeightedGraph) → IsGraph g → IsForest (graph_tree g)
-graph-forest g is = tree-forest g.n (ranked g) is.some_vertex is.vertices (AreApart-ranked g) (AreWithin-ranked g is)
+pub graph-forest : (g : WeightedGraph) → IsGraph g → IsWellFormed (graph_tree g)
+graph-forest g is = tree-well_formed g.n (ranked g) is.some_vertex is.vertices (AreApart-ranked g) (AreWithin-ranked g is)
 
 -- the label that the watershed cut gives a vertex
 label-at : (g : WeightedGraph) (x : ℕ) → x < g.n → get_or (watershed_of g).labels.labels x 0 ≡ tree_label g.n (ranked g) x
 label-at g x h = get_or-map-range_with_len (tree_label g.n (ranked g)) 0 g.n x x 0 h (omega arith)
 
 -- a hierarchical watershed begins at the watershed cut
-begins-at : (g : WeightedGraph) → IsGraph g → (kind : Kind) → BeginsAtWatershed g (hierarchy_of g kind)
+begins-at : (g : WeightedGraph) → IsGraph g → (kind : Kind) → BeginsAtWatershed g (hierarchical_of g kind)
 begins-at g is kind x y hx hy =
-    let law : Shares (hierarchy_of g kind) 0 x y ↔ (tree_label g.n (ranked g) x ≡ tree_label g.n (ranked g) y) = level-zero g is kind x y hx hy in
+    let law : Shares (hierarchical_of g kind) 0 x y ↔ (tree_label g.n (ranked g) x ≡ tree_label g.n (ranked g) y) = level-zero g is kind x y hx hy in
     (λ shared. label-at g x hx ∙ law.0 shared ∙ sym (label-at g y hy), λ one. law.1 (sym (label-at g x hx) ∙ one ∙ label-at g y hy))
 
 -- so the hierarchy of every graph is one

@@ -7,7 +7,7 @@ use Rattle.hg_base.specs.Tree.{ParentTree, graph_tree}
 use Rattle.hg_base.proofs.Levels.{level-tree}
 use Rattle.hg_base.proofs.Ranked.{AreApart-ranked, AreByWeight-ranked, AreWithin-ranked, ends-within}
 use Rattle.hg_base.proofs.Saliencies.{saliency-is}
-use Rattle.partition_tree.specs.Forest.{IsForest}
+use Rattle.partition_tree.specs.TreeLists.{IsWellFormed}
 use Rattle.partition_tree.proofs.PathLemmas.{common-shares}
 use Rattle.saliency.specs.Values.{EndsShareRoots}
 use Rattle.graph_hierarchy.specs.Hierarchies.{IsTreeOf}
@@ -15,7 +15,7 @@ use Rattle.higra_cli.specs.Running.{IsHierarchy}
 use Rattle.higra_cli.proofs.HierarchyLemmas.{hierarchy-is}
 
 -- the ends of each edge are below one root
-ends-share : (g : WeightedGraph) → IsGraph g → IsForest (graph_tree g) → EndsShareRoots g (graph_tree g)
+ends-share : (g : WeightedGraph) → IsGraph g → IsWellFormed (graph_tree g) → EndsShareRoots g (graph_tree g)
 ends-share g graph forest e h =
     let ends = ends-within g graph e h in
     let above = (level-tree g.n (ranked g) (AreApart-ranked g) (AreWithin-ranked g graph) (AreByWeight-ranked g)).one_above (saliency g e) (first_end g e) ends.0 in
@@ -24,7 +24,7 @@ ends-share g graph forest e h =
     (above.1.1 (first_end g e) ends.0 ([], refl), above.1.1 (second_end g e) ends.1 (saliency-is g e h).joins)
 
 pub shared_roots : (g : WeightedGraph) (t : ParentTree) → IsTreeOf g t → EndsShareRoots g t
-shared_roots g t is = subst (λ (u : ParentTree). EndsShareRoots g u) (sym is.same) (ends-share g is.graph (subst IsForest is.same is.forest))
+shared_roots g t is = subst (λ (u : ParentTree). EndsShareRoots g u) (sym is.same) (ends-share g is.graph (subst IsWellFormed is.same is.forest))
 
 -- a graph whose tree was made
 pub is_hierarchy : (g : WeightedGraph) (t : ParentTree) → IsTreeOf g t → IsHierarchy g

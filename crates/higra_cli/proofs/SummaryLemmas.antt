@@ -14,11 +14,11 @@ use Rattle.hg_base.specs.Tree.{ParentTree, altitude}
 use Rattle.hg_base.proofs.Members.{IsIn-filter}
 use Rattle.hg_base.proofs.Ranked.{IsIn-ranked}
 use Rattle.hg_base.proofs.Saliencies.{saliency-is}
-use Rattle.partition_tree.specs.Forest.{IsForest, nodes}
+use Rattle.partition_tree.specs.TreeLists.{IsWellFormed, nodes}
 use Rattle.higra_cli.specs.Summary.{greatest}
 
 -- the greatest altitude up to the next node
-pub greatest_more : (t : ParentTree) (i k g : ℕ) → IsForest t → i < nodes t → k ≡ altitude t i → g ≡ greatest (take i t.altitudes) → max g k ≡ greatest (take (i + 1) t.altitudes)
+pub greatest_more : (t : ParentTree) (i k g : ℕ) → IsWellFormed t → i < nodes t → k ≡ altitude t i → g ≡ greatest (take i t.altitudes) → max g k ≡ greatest (take (i + 1) t.altitudes)
 greatest_more t i k g forest low own so_far =
     let each = forest.one_altitude_each in
     let within : i < length t.altitudes = omega (arith, each, low) in
@@ -27,7 +27,7 @@ greatest_more t i k g forest low own so_far =
     last ∙ sym next
 
 -- and of all
-pub greatest_all : (t : ParentTree) (i g : ℕ) → IsForest t → nodes t ≤ i → g ≡ greatest (take i t.altitudes) → g ≡ greatest t.altitudes
+pub greatest_all : (t : ParentTree) (i g : ℕ) → IsWellFormed t → nodes t ≤ i → g ≡ greatest (take i t.altitudes) → g ≡ greatest t.altitudes
 greatest_all t i g forest end so_far =
     let each = forest.one_altitude_each in
     let long : length t.altitudes ≤ i = omega (arith, each, end) in

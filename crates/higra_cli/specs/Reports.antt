@@ -11,7 +11,7 @@ use Rattle.component_tree.specs.declared.side.Side.TheVariants.{Max, Min}
 use Rattle.energy_cut.specs.Energies.{energies_of}
 use Rattle.energy_cut.specs.Regions.{RegionCut, energy_cut_of}
 use Rattle.energy_cut.specs.Report.{energy_report}
-use Rattle.extinction.specs.Hierarchy.{hierarchy_of}
+use Rattle.extinction.specs.HierarchicalWatershed.{hierarchical_of}
 use Rattle.extinction.specs.Report.{hierarchical_report}
 use Rattle.extinction.specs.Survivors.{extinctions_of}
 use Rattle.extinction.specs.declared.kind.Kind.{Kind}
@@ -49,7 +49,7 @@ use Rattle.higra_cli.specs.declared.writing.RunFault.TheVariants as faults
 -- the tree that a cut is of: the graph's own, or its hierarchical watershed by a kind
 abbrev pub cut_tree : Option Kind → WeightedGraph → ParentTree
 cut_tree None g = graph_tree g
-cut_tree (Some kind) g = hierarchy_of g kind
+cut_tree (Some kind) g = hierarchical_of g kind
 
 -- the regions of a tree at a level, labelled by least vertex
 abbrev pub regions : ParentTree → ℕ → Labelling
@@ -101,7 +101,7 @@ text_of reports.Saliency g = saliency_report (saliencies g)
 text_of reports.Attributes g = attributes_report (attributes_of g)
 text_of reports.Minima g = minima_report (minima_of g)
 text_of reports.Watershed g = watershed_report (watershed_of g) (minima_of g).count (cost g (forest g))
-text_of (reports.Hierarchical kind) g = hierarchical_report (hierarchy_of g kind) (extinctions_of g kind)
+text_of (reports.Hierarchical kind) g = hierarchical_report (hierarchical_of g kind) (extinctions_of g kind)
 text_of (reports.Cut kind level) g = labels_report (regions (cut_tree kind g) level)
 text_of reports.Summary g = summary_report (summary_of g)
 text_of reports.Mintree g = []

@@ -5,7 +5,7 @@ use Rattle.component_tree.specs.Components.{IsComponentTree}
 use Rattle.component_tree.specs.MinTree.{value_at}
 use Rattle.component_tree.specs.declared.side.Side.{Side}
 use Rattle.energy_cut.specs.Cuts.{IsLeastCut}
-use Rattle.extinction.specs.Hierarchy.{hierarchy_of}
+use Rattle.extinction.specs.HierarchicalWatershed.{hierarchical_of}
 use Rattle.extinction.specs.declared.kind.Kind.{Kind}
 use Rattle.hg_base.specs.Graph.{WeightedGraph}
 use Rattle.hg_base.specs.Levels.{Shares}
@@ -122,7 +122,7 @@ pub record IsHierarchy (g : WeightedGraph) : Type 0 where
   pub altitudes : HasAltitudes (graph_tree g) (ranked g)
   pub saliencies : (e : ℕ) → e < length g.edges → IsSaliency g e (saliency g e)
   pub watershed : IsWatershed g (watershed_of g)
-  pub hierarchies : (kind : Kind) → BeginsAtWatershed g (hierarchy_of g kind)
+  pub hierarchies : (kind : Kind) → BeginsAtWatershed g (hierarchical_of g kind)
   pub cuts : (penalty : ℕ) → IsLeastCut (graph_tree g) (graph_energies g penalty) (graph_energy_cut g penalty).nodes
 
 -- the nodes of a picture's component tree are the components of its pixels up to each sample, or from each on, each once

@@ -5,7 +5,7 @@ use Rattle.hg_base.specs.Saliencies.{saliencies}
 use Rattle.hg_base.specs.Text.{headed_line}
 use Rattle.hg_base.specs.Tree.{graph_tree}
 use Rattle.hg_base.specs.Zones.{zones_of}
-use Rattle.partition_tree.specs.Forest.{nodes}
+use Rattle.partition_tree.specs.TreeLists.{nodes}
 use Rattle.watershed_cut.specs.Forest.{forest}
 use Rattle.watershed_cut.specs.MinimumLabels.{minima_of}
 use Rattle.watershed_cut.specs.Rooted.{cost}

@@ -2,11 +2,11 @@
 ghost use Rattle.std.specs.Prelude.{◌≡◌, ◌^◌, ◌<◌, All, IfOk, length};
 ghost use Rattle.attributes.specs.Attributes.{attributes_of};
 ghost use Rattle.edge_order.specs.Order.{order_of};
-ghost use Rattle.extinction.specs.Hierarchy.{hierarchy_of};
+ghost use Rattle.extinction.specs.HierarchicalWatershed.{hierarchical_of};
 ghost use Rattle.extinction.specs.Survivors.{extinctions_of};
 ghost use Rattle.hg_base.specs.Levels.{AltitudesRise};
 ghost use Rattle.hg_base.specs.Tree.{graph_tree};
-ghost use Rattle.partition_tree.specs.Forest.{nodes};
+ghost use Rattle.partition_tree.specs.TreeLists.{nodes};
 ghost use Rattle.watershed_cut.specs.MinimumLabels.{minima_of};
 ghost use Rattle.graph_hierarchy.specs.Hierarchies.{IsTreeOf};
 ghost use Rattle.higra_cli.specs.Reports.{cut_tree, graph_energies, regions};
@@ -57,7 +57,7 @@ impl Basins {
         requires tree { tree.now ≡ graph_tree graph.now }
         requires attributes { self.now.attributes ≡ attributes_of graph.now }
         requires minima { self.now.minima ≡ minima_of graph.now }
-        ensures hierarchy { IfOk result (λ hierarchy. hierarchy ≡ hierarchy_of graph.now kind) }
+        ensures hierarchy { IfOk result (λ hierarchy. hierarchy ≡ hierarchical_of graph.now kind) }
         ensures rises { IfOk result (λ hierarchy. AltitudesRise hierarchy) }
     {
         hierarchical(alloc, graph, tree, &self.attributes, &self.minima, kind)

@@ -4,7 +4,7 @@ ghost use Rattle.attributes.specs.Attributes.{attributes_of};
 ghost use Rattle.attributes.specs.Report.{attributes_report};
 ghost use Rattle.edge_order.specs.Order.{order_of};
 ghost use Rattle.energy_cut.specs.Report.{energy_report};
-ghost use Rattle.extinction.specs.Hierarchy.{hierarchy_of};
+ghost use Rattle.extinction.specs.HierarchicalWatershed.{hierarchical_of};
 ghost use Rattle.extinction.specs.Report.{hierarchical_report};
 ghost use Rattle.extinction.specs.Survivors.{extinctions_of};
 ghost use Rattle.hg_base.specs.Levels.{AltitudesRise};
@@ -115,7 +115,7 @@ fn hierarchical_text(
 ) -> Result<Pieces, OutOfMemory>
     requires order { order.now ≡ order_of graph.now }
     requires tree { IsTreeOf graph.now tree.now }
-    ensures { IfOk result (λ text. text ≡ hierarchical_report (hierarchy_of graph.now kind) (extinctions_of graph.now kind)) }
+    ensures { IfOk result (λ text. text ≡ hierarchical_report (hierarchical_of graph.now kind) (extinctions_of graph.now kind)) }
 {
     let basins = Basins::of(alloc, graph, order, tree)?;
     let values = basins.extinctions(alloc, graph, tree, kind)?;

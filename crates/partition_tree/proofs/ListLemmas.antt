@@ -11,7 +11,7 @@ use Rattle.hg_base.specs.Edges.{ListedEdge, IsIn, AreApart, AreWithin}
 use Rattle.hg_base.specs.Saliency.{AreByWeight}
 use Rattle.hg_base.specs.Placed.{placed}
 use Rattle.partition_tree.specs.declared.list.Ranked.{Ranked}
-use Rattle.partition_tree.specs.Ranked.{JoinsTwo, IsRankedList, edge_at, edges_of}
+use Rattle.partition_tree.specs.Ranked.{IsRankedEdge, IsRankedList, edge_at, edges_of}
 
 -- an edge of the list is at a place
 pub record IsPlaced (list : List Ranked) (k : ℕ) (e : ListedEdge) : Type 0 where
@@ -82,7 +82,7 @@ pub edges-within : (n : ℕ) (list : List Ranked) → IsRankedList n list → Ar
 edges-within n list h e i =
     let p = edges-placed list e i in
     let r = read-at list p.at p.low in
-    let two : JoinsTwo n r.0 = subst (λ (x : Ranked). JoinsTwo n x) r.1.or_else (All-get_or (JoinsTwo n) list p.at r.0 p.low h.ends) in
+    let two : IsRankedEdge n r.0 = subst (λ (x : Ranked). IsRankedEdge n x) r.1.or_else (All-get_or (IsRankedEdge n) list p.at r.0 p.low h.ends) in
     let u : e.u ≡ r.0.u = ap (λ (x : ListedEdge). x.u) (sym p.is) ∙ ap (λ (o : Option Ranked). option_map_or (λ (x : Ranked). x.u) o 0) r.1.value in
     let v : e.v ≡ r.0.v = ap (λ (x : ListedEdge). x.v) (sym p.is) ∙ ap (λ (o : Option Ranked). option_map_or (λ (x : Ranked). x.v) o 0) r.1.value in
     (subst (λ (k : ℕ). k < n) (sym u) two.u, subst (λ (k : ℕ). k < n) (sym v) two.v)

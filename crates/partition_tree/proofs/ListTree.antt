@@ -7,11 +7,11 @@ use Rattle.hg_base.specs.Tree.{ParentTree, tree_of, node_or}
 use Rattle.node_region.specs.Pool.{leaf_of, count}
 use Rattle.border_climb.specs.Stands.{PartState, Stands}
 use Rattle.partition_tree.specs.declared.list.Ranked.{Ranked}
-use Rattle.partition_tree.specs.Forest.{IsForest, lists_of}
+use Rattle.partition_tree.specs.TreeLists.{IsWellFormed, lists_of}
 use Rattle.partition_tree.specs.Ranked.{IsRankedList, edge_at, edges_of}
-use Rattle.partition_tree.specs.Numbering.{AreCells, AreDrawn, node_above, inner_parent}
-use Rattle.partition_tree.proofs.TreeLemmas.{tree-forest}
-use Rattle.partition_tree.proofs.NumberingLaws.{Stands-cells, IsNumbering, numbering-of, leaf-parents, inner-parents, inner-values}
+use Rattle.partition_tree.specs.CellNodes.{AreCells, AreListsOfPart, node_above, inner_parent}
+use Rattle.partition_tree.proofs.TreeLemmas.{tree-well_formed}
+use Rattle.partition_tree.proofs.CellNodeLaws.{Stands-cells, IsNumbering, numbering-of, leaf-parents, inner-parents, inner-values}
 use Rattle.partition_tree.proofs.ListLemmas.{edges-apart, edges-low, edges-own, edges-within}
 
 -- a part to which the edges of the list were given, with places from 0 on
@@ -25,7 +25,7 @@ given-cells part list g = Stands-cells part (edges_of list) (length list) g.stan
 
 -- the lists that were made of the part are those of the list's tree
 pub drawn-list : (part : PartState) (list : List Ranked) (n : ℕ) (parents altitudes makers : List ℕ) → IsGiven part list → n ≡ count part.region →
-    AreDrawn part n (length list) (λ v. v) (λ r. (edge_at list r).weight) (λ r. (edge_at list r).number) parents altitudes makers → lists_of n parents altitudes makers ≡ tree_of (count part.region) (edges_of list)
+    AreListsOfPart part n (length list) (λ v. v) (λ r. (edge_at list r).weight) (λ r. (edge_at list r).number) parents altitudes makers → lists_of n parents altitudes makers ≡ tree_of (count part.region) (edges_of list)
 drawn-list part list n parents altitudes makers g is m =
     ap (λ (x : ℕ). lists_of x parents altitudes makers) is
     ∙ ap (λ (l : List ℕ). lists_of (count part.region) l altitudes makers) p
@@ -52,7 +52,7 @@ drawn-list part list n parents altitudes makers g is m =
     k : makers ≡ (tree_of (count part.region) (edges_of list)).makers
     k = m.makers_are ∙ inner-values part (edges_of list) (count part.region) m.made m.numbers w (λ r. (edge_at list r).number) (λ e. e.number) (λ e i. ap (λ (x : ListedEdge). x.number) (edges-own list e i))
 
--- a forest
-pub made-forest : (part : PartState) (list : List Ranked) → IsGiven part list → (t : ParentTree) → t ≡ tree_of (count part.region) (edges_of list) → IsForest t
+-- a well-formed tree
+pub made-forest : (part : PartState) (list : List Ranked) → IsGiven part list → (t : ParentTree) → t ≡ tree_of (count part.region) (edges_of list) → IsWellFormed t
 made-forest part list g t is =
-    subst IsForest (sym is) (tree-forest (count part.region) (edges_of list) g.list_of.some_vertex g.list_of.vertices (edges-apart list) (edges-within (count part.region) list g.list_of))
+    subst IsWellFormed (sym is) (tree-well_formed (count part.region) (edges_of list) g.list_of.some_vertex g.list_of.vertices (edges-apart list) (edges-within (count part.region) list g.list_of))

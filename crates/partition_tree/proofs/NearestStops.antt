@@ -7,7 +7,7 @@ use Rattle.std.proofs.lemmas.List.FromFn.{get_or-range_with_len}
 use Rattle.hg_base.specs.Tree.{ParentTree, parent, IsAbove}
 use Rattle.hg_base.specs.Levels.{IsClimbing}
 use Rattle.hg_base.proofs.Climbs.{above-on, above-next, above-same, above-within}
-use Rattle.partition_tree.specs.Forest.{nodes}
+use Rattle.partition_tree.specs.TreeLists.{nodes}
 use Rattle.partition_tree.specs.NearestStops.{StopsAt, IsNearestStop, AreOfStops}
 
 -- a node at which its path stops is its own nearest stop

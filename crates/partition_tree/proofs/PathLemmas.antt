@@ -5,7 +5,7 @@ use Rattle.std.proofs.lemmas.Option.{slice_get_past}
 use Rattle.std.proofs.lemmas.Bool.{cases_order}
 use Rattle.std.proofs.lemmas.Bool.Decides.{eqb_tells}
 use Rattle.hg_base.specs.Tree.{ParentTree, parent, ancestor, IsAbove}
-use Rattle.partition_tree.specs.Forest.{nodes, IsForest}
+use Rattle.partition_tree.specs.TreeLists.{nodes, IsWellFormed}
 use Rattle.hg_base.specs.Saliency.{IsLowestAbove}
 use Rattle.partition_tree.specs.Paths.{Rises, stop, IsRootOf, ShareRoot, IsCommon}
 
@@ -145,9 +145,9 @@ stop-low t x (suc i) le =
     let before : stop t x i ≡ x = stop-low t x i (omega arith) in
     stop-past t x i (λ e. let same : i ≡ x = sym e ∙ before in omega arith) ∙ before
 
--- a forest's links rise, also from what is no node
-pub forest-rises : (t : ParentTree) → IsForest t → Rises t
-forest-rises t f i =
+-- the links of a well-formed tree rise, also from what is no node
+pub well_formed-rises : (t : ParentTree) → IsWellFormed t → Rises t
+well_formed-rises t f i =
     elim (cases_order i (nodes t)) [
       | inl level ↦ beyond t i (omega arith)
       | inr other ↦ elim other [ inl low ↦ f.rises i low | inr high ↦ beyond t i (omega arith) ]
@@ -156,35 +156,35 @@ forest-rises t f i =
     beyond : (u : ParentTree) (k : ℕ) → nodes u ≤ k → k ≤ parent u k
     beyond u k h = let none' : parent u k ≡ k = ap (λ o. unwrap_or o k) (slice_get_past u.parents k h) in omega arith
 
--- what is above a node of a forest is a node
-pub forest-above : (t : ParentTree) → IsForest t → (x z : ℕ) → x < nodes t → IsAbove t z x → z < nodes t
-forest-above t f x z lt a = subst (λ (k : ℕ). k < nodes t) a.1 (climb a.0)
+-- what is above a node of a well-formed tree is a node
+pub well_formed-above : (t : ParentTree) → IsWellFormed t → (x z : ℕ) → x < nodes t → IsAbove t z x → z < nodes t
+well_formed-above t f x z lt a = subst (λ (k : ℕ). k < nodes t) a.1 (climb a.0)
   where
     climb : (d : ℕ) → ancestor t d x < nodes t
     climb zero = lt
     climb (suc d) = f.within (ancestor t d x) (climb d)
 
 -- each node has a root
-pub forest-root : (t : ParentTree) → IsForest t → (x : ℕ) → x < nodes t → (r : ℕ) × IsRootOf t x r
-forest-root t f x lt = (
+pub well_formed-root : (t : ParentTree) → IsWellFormed t → (x : ℕ) → x < nodes t → (r : ℕ) × IsRootOf t x r
+well_formed-root t f x lt = (
   stop t x (nodes t),
   record {
     above = stop-above t x (nodes t);
-    root = elim (stop-high t (forest-rises t f) x (nodes t)) [
-      | inl high ↦ absurd (let low : stop t x (nodes t) < nodes t = forest-above t f x (stop t x (nodes t)) lt (stop-above t x (nodes t)) in omega arith)
+    root = elim (stop-high t (well_formed-rises t f) x (nodes t)) [
+      | inl high ↦ absurd (let low : stop t x (nodes t) < nodes t = well_formed-above t f x (stop t x (nodes t)) lt (stop-above t x (nodes t)) in omega arith)
       | inr root ↦ root
     ];
   },
 )
 
 -- two nodes with a node above both share a root
-pub common-shares : (t : ParentTree) → IsForest t → (a b j : ℕ) → a < nodes t → IsCommon t a b j → ShareRoot t a b
+pub common-shares : (t : ParentTree) → IsWellFormed t → (a b j : ℕ) → a < nodes t → IsCommon t a b j → ShareRoot t a b
 common-shares t f a b j lt c =
-    let r = forest-root t f j (forest-above t f a j lt c.0) in
+    let r = well_formed-root t f j (well_formed-above t f a j lt c.0) in
     (r.0, (record { above = above-on t a j r.0 c.0 r.1.above; root = r.1.root }, record { above = above-on t b j r.0 c.1 r.1.above; root = r.1.root }))
 
 -- what is common tells whether a root is shared
-pub shares-told : (t : ParentTree) → IsForest t → (a b : ℕ) → a < nodes t → (o : Option ℕ) → MatchOption o ((j : ℕ) → IsCommon t a b j → ⊥) (λ i. IsLowestAbove t a b i) →
+pub shares-told : (t : ParentTree) → IsWellFormed t → (a b : ℕ) → a < nodes t → (o : Option ℕ) → MatchOption o ((j : ℕ) → IsCommon t a b j → ⊥) (λ i. IsLowestAbove t a b i) →
     MatchOption o (ShareRoot t a b → ⊥) (λ _. ShareRoot t a b)
 shares-told t f a b lt None h = λ s. h s.0 (s.1.0.above, s.1.1.above)
 shares-told t f a b lt (Some i) h = common-shares t f a b i lt (h.first, h.second)

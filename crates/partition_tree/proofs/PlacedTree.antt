@@ -7,9 +7,9 @@ use Rattle.hg_base.specs.Edges.{ListedEdge, EdgeList, IsIn, below, joins, first_
 use Rattle.hg_base.specs.Tree.{place, node_or, tree_of}
 use Rattle.hg_base.proofs.Sets.{joins-same, chain-same, IsIn-joins_kept}
 use Rattle.hg_base.proofs.Renaming.{filter-mapped, joins-renamed, next-renamed}
-use Rattle.partition_tree.specs.Forest.{lists_of}
-use Rattle.partition_tree.specs.Numbering.{IsPlacing, placed_tree}
-use Rattle.partition_tree.proofs.NumberingLaws.{range-agree}
+use Rattle.partition_tree.specs.TreeLists.{lists_of}
+use Rattle.partition_tree.specs.CellNodes.{IsPlacing, placed_tree}
+use Rattle.partition_tree.proofs.CellNodeLaws.{range-agree}
 
 -- values of two functions that agree on a list and its image
 map-renamed : {X : Type 0} (h : ListedEdge → ListedEdge) (f g : ListedEdge → X) (t : EdgeList) → ((e : ListedEdge) → IsIn e t → f (h e) ≡ g e) → map f (map h t) ≡ map g t

@@ -1,10 +1,10 @@
 -- The lists of a small tree.
 use Rattle.std.proofs.Common.{◌≡◌, ℕ, zero, suc, ◌<◌, ◌≤◌, refl, arith, [], ◌∷◌}
 use Rattle.hg_base.specs.Tree.{parent, altitude}
-use Rattle.partition_tree.specs.Forest.{IsForest, lists_of}
+use Rattle.partition_tree.specs.TreeLists.{IsWellFormed, lists_of}
 
 -- two leaves and a root
-pub small-forest : IsForest (lists_of 2 (2 ∷ 2 ∷ 2 ∷ []) (0 ∷ 0 ∷ 7 ∷ []) (5 ∷ []))
+pub small-forest : IsWellFormed (lists_of 2 (2 ∷ 2 ∷ 2 ∷ []) (0 ∷ 0 ∷ 7 ∷ []) (5 ∷ []))
 small-forest = record {
   some_leaf = omega arith;
   few_leaves = omega arith;

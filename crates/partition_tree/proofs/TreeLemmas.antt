@@ -1,4 +1,4 @@
--- The tree of an edge list is a forest, and its altitudes are the weights at which vertices get joined.
+-- The tree of an edge list is well formed, and its altitudes are the weights at which vertices get joined.
 use Rattle.std.proofs.Common.{◌≡◌, ◌≢◌, ℕ, ◌+◌, ◌<◌, ◌≤◌, inl, inr, refl, sym, ◌∙◌, ap, arith, length, map, length-append}
 use Rattle.std.specs.Prelude.{replicate}
 use Rattle.std.proofs.lemmas.List.{length-map, length-replicate}
@@ -10,7 +10,7 @@ use Rattle.hg_base.proofs.Components.{joins-count}
 use Rattle.hg_base.proofs.Nodes.{length-parents}
 use Rattle.hg_base.proofs.Meeting.{altitude-leaf, altitude-inner}
 use Rattle.hg_base.proofs.TreeNodes.{made-within, HasParent, node-cases, leaf-parent, made-parent}
-use Rattle.partition_tree.specs.Forest.{nodes, IsForest}
+use Rattle.partition_tree.specs.TreeLists.{nodes, IsWellFormed}
 use Rattle.partition_tree.proofs.ChildLemmas.{count-less}
 
 -- where the parent of a node is
@@ -44,9 +44,9 @@ joins-few n s some h within =
     let first : count_below (is_least (joined s)) 0 < components n s = count-less (is_least (joined s)) 0 n (omega arith) refl in
     omega (arith, sum, first)
 
--- the tree of an edge list is a forest
-pub tree-forest : (n : ℕ) (s : EdgeList) → 1 ≤ n → n ≤ 1048576 → AreApart s → AreWithin n s → IsForest (tree_of n s)
-tree-forest n s some few h within =
+-- the tree of an edge list is well formed
+pub tree-well_formed : (n : ℕ) (s : EdgeList) → 1 ≤ n → n ≤ 1048576 → AreApart s → AreWithin n s → IsWellFormed (tree_of n s)
+tree-well_formed n s some few h within =
     let len : nodes (tree_of n s) ≡ n + length (joins s) = length-parents n s in
     let less : length (joins s) < n = joins-few n s some h within in
     record {

@@ -1,11 +1,11 @@
 pub mod Ranked
-pub mod Forest
+pub mod TreeLists
 pub mod Paths
-pub mod Climbs
+pub mod JumpPointers
 pub mod Children
-pub mod Numbering
-pub mod Planned
+pub mod CellNodes
+pub mod RankWeights
 pub mod TreeFields
 pub mod Report
-pub mod Turns
+pub mod BlockKeys
 pub mod NearestStops

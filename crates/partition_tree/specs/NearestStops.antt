@@ -1,7 +1,7 @@
 -- The nearest node on a path at which a pass from the roots down stops.
 use Rattle.std.specs.Prelude.{◌≡◌, ℕ, ◌<◌, ◌⊎◌, Bool, true, List, length, get_or}
 use Rattle.hg_base.specs.Tree.{ParentTree, parent, IsAbove}
-use Rattle.partition_tree.specs.Forest.{nodes}
+use Rattle.partition_tree.specs.TreeLists.{nodes}
 
 -- a path stops at node i: the node passes the test, or is a root
 abbrev pub StopsAt : ParentTree → (ℕ → Bool) → ℕ → Type 0

@@ -3,7 +3,7 @@ use Rattle.std.specs.Prelude.{ℕ, List, [], ◌∷◌, ◌++◌, codes}
 use Rattle.std.specs.List.{range_with_len, flat_map}
 use Rattle.hg_base.specs.Text.{line, headed_line}
 use Rattle.hg_base.specs.Tree.{ParentTree, parent, altitude}
-use Rattle.partition_tree.specs.Forest.{nodes}
+use Rattle.partition_tree.specs.TreeLists.{nodes}
 
 -- a node's line: its number, its parent and its altitude
 abbrev pub node_line : ParentTree → ℕ → List ℕ

@@ -1,9 +1,9 @@
 ghost use Rattle.std.specs.Prelude.{◌≡◌, ◌<◌, IfOk, IfSome, MatchOption};
 ghost use Rattle.hg_base.specs.Saliency.{IsLowestAbove};
-ghost use Rattle.partition_tree.specs.Forest.{nodes};
+ghost use Rattle.partition_tree.specs.TreeLists.{nodes};
 ghost use Rattle.partition_tree.specs.Paths.{ShareRoot};
 
-use crate::climbs::Climbs;
+use crate::jump_pointers::JumpPointers;
 use crate::tree::Tree;
 use hg_base::OutOfMemory;
 use std::alloc::{AllocError, Global};
@@ -14,18 +14,18 @@ use std::marker::Model;
 #[derive(Drop)]
 pub struct Ancestors<'a> {
     tree: &'a Tree,
-    climbs: Climbs,
+    pointers: JumpPointers,
 }
 
 impl<'a> Model for Ancestors<'a> {
     ghost use Rattle.hg_base.specs.Tree.{ParentTree};
-    ghost use Rattle.partition_tree.specs.Climbs.{AreClimbs};
+    ghost use Rattle.partition_tree.specs.JumpPointers.{AreJumpPointers};
 
     ghost Value = { ParentTree };
 
     ghost view = { λ s. s.tree.now };
 
-    ghost invariant = { λ s. AreClimbs s.tree.now s.climbs.depths.items s.climbs.jumps.items };
+    ghost invariant = { λ s. AreJumpPointers s.tree.now s.pointers.depths.items s.pointers.jumps.items };
 }
 
 impl<'a> Ancestors<'a> {
@@ -39,8 +39,8 @@ impl<'a> Ancestors<'a> {
     fn kept(alloc: Global, tree: &'a Tree) -> Result<Ancestors<'a>, AllocError>
         ensures { IfOk result (λ ancestors. ancestors ≡ tree.now) }
     {
-        let climbs = Climbs::of(alloc, tree)?;
-        Ok(Ancestors { tree, climbs })
+        let pointers = JumpPointers::of(alloc, tree)?;
+        Ok(Ancestors { tree, pointers })
     }
 
     /// The lowest common ancestor: the node of least number that is above both a and b, a node being above itself.
@@ -52,6 +52,6 @@ impl<'a> Ancestors<'a> {
         ensures roots { MatchOption result (¬ ShareRoot self.now a b) (λ i. ShareRoot self.now a b) }
         ensures within { IfSome result (λ i. i < nodes self.now) }
     {
-        self.climbs.lca(self.tree, a, b)
+        self.pointers.lca(self.tree, a, b)
     }
 }

@@ -1,9 +1,9 @@
 ghost use Rattle.std.specs.Prelude.{◌≡◌, ◌≤◌, IfOk};
 ghost use Rattle.node_region.specs.Pool.{count};
-ghost use Rattle.partition_tree.specs.Numbering.{AreCells, AreDrawn, AreLinked, node_parents};
+ghost use Rattle.partition_tree.specs.CellNodes.{AreCells, AreListsOfPart, AreCellNodes, node_parents};
 
+use crate::cell_nodes::{CellNodes, cells_by_rank};
 use crate::edges::Edges;
-use crate::numbering::{Numbering, cells_by_rank};
 use crate::parents::{parents, parents_in_threads};
 use border_climb::Part;
 use std::alloc::{AllocError, Global};
@@ -28,9 +28,9 @@ pub(crate) fn drawn<E: Edges>(
     requires places { count part.now.region ≡ E.vertices edges.now }
     requires ranks { ranks ≡ E.len edges.now }
     requires few { ranks ≤ 4194304 }
-    ensures { IfOk result (λ lists. AreDrawn part.now (E.vertices edges.now) ranks (E.place_at edges.now) (E.altitude_at edges.now) (E.number_at edges.now) lists.parents.items lists.altitudes.items lists.makers.items) }
+    ensures { IfOk result (λ lists. AreListsOfPart part.now (E.vertices edges.now) ranks (E.place_at edges.now) (E.altitude_at edges.now) (E.number_at edges.now) lists.parents.items lists.altitudes.items lists.makers.items) }
 {
-    let numbering = numbered(alloc, edges, part, ranks)?;
+    let numbering = cell_nodes_of(alloc, edges, part, ranks)?;
     let parents = parents(alloc, edges, part, &numbering)?;
     Ok(TreeLists {
         parents,
@@ -51,9 +51,9 @@ pub(crate) fn drawn_in_threads<E: Edges>(
     requires places { count part.now.region ≡ E.vertices edges.now }
     requires ranks { ranks ≡ E.len edges.now }
     requires few { ranks ≤ 4194304 }
-    ensures { IfOk result (λ lists. AreDrawn part.now (E.vertices edges.now) ranks (E.place_at edges.now) (E.altitude_at edges.now) (E.number_at edges.now) lists.parents.items lists.altitudes.items lists.makers.items) }
+    ensures { IfOk result (λ lists. AreListsOfPart part.now (E.vertices edges.now) ranks (E.place_at edges.now) (E.altitude_at edges.now) (E.number_at edges.now) lists.parents.items lists.altitudes.items lists.makers.items) }
 {
-    let numbering = numbered(alloc, edges, part, ranks)?;
+    let numbering = cell_nodes_of(alloc, edges, part, ranks)?;
     let parents = parents_in_threads(rt, alloc, edges, part, &numbering)?;
     Ok(TreeLists {
         parents,
@@ -63,18 +63,18 @@ pub(crate) fn drawn_in_threads<E: Edges>(
 }
 
 // The numbering of the cells of a part that was given edges of so many ranks.
-fn numbered<E: Edges>(
+fn cell_nodes_of<E: Edges>(
     alloc: Global,
     edges: &E,
     part: &Part,
     ranks: usize,
-) -> Result<Numbering, AllocError>
+) -> Result<CellNodes, AllocError>
     requires cells { AreCells part.now (E.len edges.now) }
     requires ranks { ranks ≡ E.len edges.now }
     requires few { ranks ≤ 4194304 }
-    ensures linked { IfOk result (λ numbering. AreLinked part.now numbering.made.items numbering.numbers.items) }
-    ensures drawn { IfOk result (λ numbering. AreDrawn part.now (E.vertices edges.now) ranks (E.place_at edges.now) (E.altitude_at edges.now) (E.number_at edges.now) (node_parents (E.vertices edges.now) (E.place_at edges.now) part.now.region numbering.made.items numbering.numbers.items) numbering.altitudes.items numbering.makers.items) }
+    ensures linked { IfOk result (λ numbering. AreCellNodes part.now numbering.made.items numbering.numbers.items) }
+    ensures drawn { IfOk result (λ numbering. AreListsOfPart part.now (E.vertices edges.now) ranks (E.place_at edges.now) (E.altitude_at edges.now) (E.number_at edges.now) (node_parents (E.vertices edges.now) (E.place_at edges.now) part.now.region numbering.made.items numbering.numbers.items) numbering.altitudes.items numbering.makers.items) }
 {
     let cells = cells_by_rank(alloc, part, ranks)?;
-    Numbering::of(alloc, edges, part, &cells)
+    CellNodes::of(alloc, edges, part, &cells)
 }

@@ -4,13 +4,13 @@ ghost use Rattle.hg_base.specs.Edges.{EdgeList, AreApart, AreWithin};
 ghost use Rattle.hg_base.specs.Tree.{tree_of};
 ghost use Rattle.hg_base.specs.Levels.{AltitudesRise};
 ghost use Rattle.hg_base.specs.Saliency.{AreByWeight};
-ghost use Rattle.partition_tree.specs.Forest.{IsForest};
-ghost use Rattle.partition_tree.specs.Numbering.{IsPlacing, placed_tree};
+ghost use Rattle.partition_tree.specs.TreeLists.{IsWellFormed};
+ghost use Rattle.partition_tree.specs.CellNodes.{IsPlacing, placed_tree};
 
-/// The tree of an edge list is a forest, and where the weights don't fall with the rank, altitudes don't fall from
+/// The tree of an edge list is well formed, and where the weights don't fall with the rank, altitudes don't fall from
 /// child to parent.
-pub fn tree_is_a_forest()
-    ensures forest { (n : ℕ) (s : EdgeList) → 1 ≤ n → n ≤ 1048576 → AreApart s → AreWithin n s → IsForest (tree_of n s) }
+pub fn tree_is_well_formed()
+    ensures well_formed { (n : ℕ) (s : EdgeList) → 1 ≤ n → n ≤ 1048576 → AreApart s → AreWithin n s → IsWellFormed (tree_of n s) }
     ensures rises { (n : ℕ) (s : EdgeList) → AreApart s → AreByWeight s → AltitudesRise (tree_of n s) }
 {}
 

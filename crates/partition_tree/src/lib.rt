@@ -2,24 +2,24 @@
 #![tactic(auto)]
 
 mod ancestors;
+mod block_keys;
+mod cell_nodes;
 mod child_lists;
 mod children;
-mod climbs;
 mod drawn;
 mod edges;
+mod jump_pointers;
 mod laws;
 mod list;
-mod numbering;
 mod parents;
 mod passes;
-mod planned;
+mod plan;
 mod report;
 mod tree;
-mod turns;
 
 pub use ancestors::Ancestors;
 pub use children::Children;
-pub use laws::{tree_is_a_forest, tree_under_other_names};
+pub use laws::{tree_is_well_formed, tree_under_other_names};
 pub use list::Ranked;
 pub use passes::{own_numbers, send_down};
 pub use report::{tree_pieces, write_tree};

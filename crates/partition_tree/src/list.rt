@@ -4,10 +4,10 @@ ghost use Rattle.node_region.specs.Pool.{count};
 ghost use Rattle.border_climb.specs.Stands.{Stands};
 ghost use Rattle.partition_tree.specs.Ranked.{IsRankedList, edge_at, edges_of};
 
+use crate::block_keys::block_keys;
 use crate::drawn::drawn;
 use crate::edges::Edges;
 use crate::tree::Tree;
-use crate::turns::turns;
 use border_climb::Part;
 use hg_base::{OutOfMemory, PlacedEdge};
 use std::alloc::{AllocError, Global};
@@ -31,7 +31,7 @@ impl Tree {
         ensures fronts { IfOk result (λ tree. IsFrontTree tree n (edges_of list.now)) }
     {
         let part = part_of(alloc, n, list)?;
-        numbered(alloc, &part, list).map_err(|_| OutOfMemory)
+        tree_of_part(alloc, &part, list).map_err(|_| OutOfMemory)
     }
 }
 
@@ -43,11 +43,11 @@ fn part_of(alloc: Global, n: u32, list: &[Ranked]) -> Result<Part, OutOfMemory>
     ensures stands { IfOk result (λ part. Stands part (edges_of list.now)) }
 {
     let mut part = Part::whole(alloc, n)?;
-    let turns = turns(alloc, list).map_err(|_| OutOfMemory)?;
-    for turn in &turns {
-        let e = list[turn.rank as usize];
+    let block_keys = block_keys(alloc, list).map_err(|_| OutOfMemory)?;
+    for key in &block_keys {
+        let e = list[key.rank as usize];
         part.give(PlacedEdge {
-            rank: turn.rank,
+            rank: key.rank,
             a: e.u,
             b: e.v,
         });
@@ -57,12 +57,12 @@ fn part_of(alloc: Global, n: u32, list: &[Ranked]) -> Result<Part, OutOfMemory>
 
 // A list of edges over the vertices 0 to n - 1, each of which is its own place.
 #[derive(Clone, Copy)]
-struct Listed<'a> {
+struct ListEdges<'a> {
     n: u32,
     list: &'a [Ranked],
 }
 
-impl Edges for Listed<'_> {
+impl Edges for ListEdges<'_> {
     ghost vertices = { λ s. s.n };
 
     ghost len = { λ s. length s.list.now };
@@ -91,7 +91,7 @@ impl Edges for Listed<'_> {
 }
 
 // The tree of a part that was given the edges of a list.
-fn numbered(alloc: Global, part: &Part, list: &[Ranked]) -> Result<Tree, AllocError>
+fn tree_of_part(alloc: Global, part: &Part, list: &[Ranked]) -> Result<Tree, AllocError>
     requires first { part.now.region.first ≡ 0 }
     requires list { IsRankedList (count part.now.region) list.now }
     requires stands { Stands part.now (edges_of list.now) }
@@ -99,7 +99,7 @@ fn numbered(alloc: Global, part: &Part, list: &[Ranked]) -> Result<Tree, AllocEr
     ensures fronts { IfOk result (λ tree. IsFrontTree tree (count part.now.region) (edges_of list.now)) }
 {
     let n = part.count();
-    let edges = Listed { n, list };
+    let edges = ListEdges { n, list };
     let lists = drawn(alloc, &edges, part, list.len())?;
     Ok(Tree::new(n, lists.parents, lists.altitudes, lists.makers))
 }

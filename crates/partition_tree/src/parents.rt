@@ -2,10 +2,10 @@
 ghost use Rattle.std.specs.Prelude.{◌≡◌, ◌+◌, ◌<◌, ◌++◌, map, vec_len, length, IfOk, OnOk};
 ghost use Rattle.std.specs.List.{range_with_len};
 ghost use Rattle.node_region.specs.Pool.{count};
-ghost use Rattle.partition_tree.specs.Numbering.{AreLinked, inner_parent, leaf_parent, node_parents};
+ghost use Rattle.partition_tree.specs.CellNodes.{AreCellNodes, inner_parent, leaf_parent, node_parents};
 
+use crate::cell_nodes::{CellNodes, node_or};
 use crate::edges::Edges;
-use crate::numbering::{Numbering, node_or};
 use border_climb::Part;
 use rayon::prelude::*;
 use std::alloc::{AllocError, Global};
@@ -16,9 +16,9 @@ pub(crate) fn parents<E: Edges>(
     alloc: Global,
     edges: &E,
     part: &Part,
-    numbering: &Numbering,
+    numbering: &CellNodes,
 ) -> Result<Vec<u32>, AllocError>
-    requires linked { AreLinked part.now numbering.now.made.items numbering.now.numbers.items }
+    requires linked { AreCellNodes part.now numbering.now.made.items numbering.now.numbers.items }
     requires places { count part.now.region ≡ E.vertices edges.now }
     ensures { IfOk result (λ parents. parents.items ≡ node_parents (E.vertices edges.now) (E.place_at edges.now) part.now.region numbering.now.made.items numbering.now.numbers.items) }
 {
@@ -33,9 +33,9 @@ pub(crate) fn parents_in_threads<E: Edges>(
     alloc: Global,
     edges: &E,
     part: &Part,
-    numbering: &Numbering,
+    numbering: &CellNodes,
 ) -> Result<Vec<u32>, AllocError>
-    requires linked { AreLinked part.now numbering.now.made.items numbering.now.numbers.items }
+    requires linked { AreCellNodes part.now numbering.now.made.items numbering.now.numbers.items }
     requires places { count part.now.region ≡ E.vertices edges.now }
     ensures { IfOk result (λ parents. parents.items ≡ node_parents (E.vertices edges.now) (E.place_at edges.now) part.now.region numbering.now.made.items numbering.now.numbers.items) }
 {
@@ -46,8 +46,8 @@ pub(crate) fn parents_in_threads<E: Edges>(
 }
 
 // The node above a leaf, or the leaf itself where there is none.
-fn leaf_parent<E: Edges>(edges: &E, part: &Part, numbering: &Numbering, vertex: u32) -> u32
-    requires linked { AreLinked part.now numbering.now.made.items numbering.now.numbers.items }
+fn leaf_parent<E: Edges>(edges: &E, part: &Part, numbering: &CellNodes, vertex: u32) -> u32
+    requires linked { AreCellNodes part.now numbering.now.made.items numbering.now.numbers.items }
     requires places { count part.now.region ≡ E.vertices edges.now }
     requires leaf { vertex < E.vertices edges.now }
     ensures { result ≡ leaf_parent (E.place_at edges.now) part.now.region numbering.now.numbers.items vertex }
@@ -57,8 +57,8 @@ fn leaf_parent<E: Edges>(edges: &E, part: &Part, numbering: &Numbering, vertex: 
 }
 
 // The node above the inner node that is made i-th, or that node itself where there is none.
-fn inner_parent(part: &Part, numbering: &Numbering, i: usize) -> u32
-    requires linked { AreLinked part.now numbering.now.made.items numbering.now.numbers.items }
+fn inner_parent(part: &Part, numbering: &CellNodes, i: usize) -> u32
+    requires linked { AreCellNodes part.now numbering.now.made.items numbering.now.numbers.items }
     requires node { i < vec_len numbering.now.made }
     ensures { result ≡ inner_parent (count part.now.region) part.now.region numbering.now.made.items numbering.now.numbers.items i }
 {
@@ -71,9 +71,9 @@ fn leaf_parents<E: Edges>(
     alloc: Global,
     edges: &E,
     part: &Part,
-    numbering: &Numbering,
+    numbering: &CellNodes,
 ) -> Result<Vec<u32>, AllocError>
-    requires linked { AreLinked part.now numbering.now.made.items numbering.now.numbers.items }
+    requires linked { AreCellNodes part.now numbering.now.made.items numbering.now.numbers.items }
     requires places { count part.now.region ≡ E.vertices edges.now }
     ensures { IfOk result (λ parents. parents.items ≡ map (leaf_parent (E.place_at edges.now) part.now.region numbering.now.numbers.items) (range_with_len 0 (E.vertices edges.now))) }
 {
@@ -88,10 +88,10 @@ fn leaf_parents<E: Edges>(
 // Appends the parents of the inner nodes.
 fn push_inner_parents(
     part: &Part,
-    numbering: &Numbering,
+    numbering: &CellNodes,
     parents: &mut Vec<u32>,
 ) -> Result<(), AllocError>
-    requires { AreLinked part.now numbering.now.made.items numbering.now.numbers.items }
+    requires { AreCellNodes part.now numbering.now.made.items numbering.now.numbers.items }
     ensures { OnOk result (parents.new.items ≡ parents.old.items ++ map (inner_parent (count part.now.region) part.now.region numbering.now.made.items numbering.now.numbers.items) (range_with_len 0 (vec_len numbering.now.made))) }
 {
     for i in 0..numbering.made.len() {
@@ -105,10 +105,10 @@ fn fill<E: Edges>(
     rt: &(impl Threads + Sync),
     edges: &E,
     part: &Part,
-    numbering: &Numbering,
+    numbering: &CellNodes,
     parents: &mut [u32],
 )
-    requires linked { AreLinked part.now numbering.now.made.items numbering.now.numbers.items }
+    requires linked { AreCellNodes part.now numbering.now.made.items numbering.now.numbers.items }
     requires places { count part.now.region ≡ E.vertices edges.now }
     requires all { length parents.old ≡ E.vertices edges.now + vec_len numbering.now.made }
     ensures { parents.new ≡ node_parents (E.vertices edges.now) (E.place_at edges.now) part.now.region numbering.now.made.items numbering.now.numbers.items }
@@ -123,10 +123,10 @@ fn fill_leaves<E: Edges>(
     rt: &(impl Threads + Sync),
     edges: &E,
     part: &Part,
-    numbering: &Numbering,
+    numbering: &CellNodes,
     leaves: &mut [u32],
 )
-    requires linked { AreLinked part.now numbering.now.made.items numbering.now.numbers.items }
+    requires linked { AreCellNodes part.now numbering.now.made.items numbering.now.numbers.items }
     requires places { count part.now.region ≡ E.vertices edges.now }
     requires all { length leaves.old ≡ E.vertices edges.now }
     ensures { leaves.new ≡ map (leaf_parent (E.place_at edges.now) part.now.region numbering.now.numbers.items) (range_with_len 0 (E.vertices edges.now)) }
@@ -135,7 +135,7 @@ fn fill_leaves<E: Edges>(
         rt,
         leaves,
         |vertex: usize, parent: &mut u32|
-            requires { AreLinked part.now numbering.now.made.items numbering.now.numbers.items × (count part.now.region ≡ E.vertices edges.now) × (vertex < E.vertices edges.now) }
+            requires { AreCellNodes part.now numbering.now.made.items numbering.now.numbers.items × (count part.now.region ≡ E.vertices edges.now) × (vertex < E.vertices edges.now) }
             ensures { parent.new ≡ leaf_parent (E.place_at edges.entry.now) part.entry.now.region numbering.entry.now.numbers.items vertex }
         {
             *parent = leaf_parent(edges, part, numbering, vertex as u32);
@@ -144,8 +144,8 @@ fn fill_leaves<E: Edges>(
 }
 
 // Puts the parent of each inner node in its place.
-fn fill_inner(rt: &(impl Threads + Sync), part: &Part, numbering: &Numbering, inner: &mut [u32])
-    requires linked { AreLinked part.now numbering.now.made.items numbering.now.numbers.items }
+fn fill_inner(rt: &(impl Threads + Sync), part: &Part, numbering: &CellNodes, inner: &mut [u32])
+    requires linked { AreCellNodes part.now numbering.now.made.items numbering.now.numbers.items }
     requires all { length inner.old ≡ vec_len numbering.now.made }
     ensures { inner.new ≡ map (inner_parent (count part.now.region) part.now.region numbering.now.made.items numbering.now.numbers.items) (range_with_len 0 (vec_len numbering.now.made)) }
 {
@@ -153,7 +153,7 @@ fn fill_inner(rt: &(impl Threads + Sync), part: &Part, numbering: &Numbering, in
         rt,
         inner,
         |i: usize, parent: &mut u32|
-            requires { AreLinked part.now numbering.now.made.items numbering.now.numbers.items × (i < vec_len numbering.now.made) }
+            requires { AreCellNodes part.now numbering.now.made.items numbering.now.numbers.items × (i < vec_len numbering.now.made) }
             ensures { parent.new ≡ inner_parent (count part.entry.now.region) part.entry.now.region numbering.entry.now.made.items numbering.entry.now.numbers.items i }
         {
             *parent = inner_parent(part, numbering, i);

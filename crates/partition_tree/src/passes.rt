@@ -1,7 +1,7 @@
 //! The pass over a tree's nodes from the roots down, on which those of the crates above stand.
 ghost use Rattle.std.specs.Prelude.{◌≡◌, ℕ, ◌<◌, Bool, length, IfOk};
 ghost use Rattle.std.specs.List.{range_with_len};
-ghost use Rattle.partition_tree.specs.Forest.{nodes, IsForest};
+ghost use Rattle.partition_tree.specs.TreeLists.{nodes, IsWellFormed};
 ghost use Rattle.partition_tree.specs.NearestStops.{AreOfStops, AnswersTest};
 
 use crate::tree::Tree;
@@ -23,7 +23,7 @@ pub fn own_numbers(alloc: Global, n: u32) -> Result<Vec<u32>, AllocError>
 pub fn send_down<F: Fn(u32) -> bool>(tree: &Tree, stops: F, values: &mut [u32])
     requires callable { (i : ℕ) → i < nodes tree.now → F.pre stops i }
     requires one_each { length values.old ≡ nodes tree.now }
-    ensures forest { IsForest tree.now }
+    ensures well_formed { IsWellFormed tree.now }
     ensures values { (test : ℕ → Bool) → AnswersTest (nodes tree.now) (F.post stops) test → AreOfStops tree.now test values.old values.new }
 {
     for i in (0..tree.nodes()).rev() {

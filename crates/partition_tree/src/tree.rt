@@ -2,16 +2,17 @@ ghost use Rattle.std.specs.Prelude.{◌≡◌, ◌≢◌, ◌↔◌, ℕ, ◌-�
 ghost use Rattle.hg_base.specs.Tree.{parent, altitude};
 ghost use Rattle.hg_base.specs.Levels.{AltitudesRise};
 ghost use Rattle.hg_base.specs.Saliency.{IsLowestAbove};
-ghost use Rattle.partition_tree.specs.Forest.{nodes, roots, lists_of, IsForest};
+ghost use Rattle.partition_tree.specs.TreeLists.{nodes, roots, lists_of, IsWellFormed};
 ghost use Rattle.partition_tree.specs.Paths.{IsCommon, ShareRoot};
-ghost use Rattle.partition_tree.specs.Climbs.{GoesOn};
+ghost use Rattle.partition_tree.specs.JumpPointers.{KeepsCommon};
 ghost use Rattle.partition_tree.specs.Children.{is_child, child_count, IsChildAt};
 
 use hg_base::OutOfMemory;
 use std::alloc::Global;
 use std::marker::Model;
 
-/// A forest over the vertices of a graph. Its leaves are the nodes 0 to leaves - 1, and a root is its own parent.
+/// A tree over the vertices of a graph, which may have several roots. Its leaves are the nodes 0 to leaves - 1, and a
+/// root is its own parent.
 /// Each node has an altitude, and each inner node has the number of the edge that made it.
 /// Trees as parent lists: Perret and others, Higra, 2019.
 #[derive(Drop)]
@@ -28,11 +29,11 @@ impl Model for Tree {
     ghost Value = { ParentTree };
 
     ghost use Rattle.partition_tree.specs.TreeFields.{tree_of_fields};
-    ghost use Rattle.partition_tree.specs.Forest.{IsForest};
+    ghost use Rattle.partition_tree.specs.TreeLists.{IsWellFormed};
 
     ghost view = { tree_of_fields };
 
-    ghost invariant = { λ t. IsForest (tree_of_fields t) };
+    ghost invariant = { λ t. IsWellFormed (tree_of_fields t) };
 }
 
 impl Tree {
@@ -45,7 +46,7 @@ impl Tree {
         altitudes: Vec<u64>,
         makers: Vec<u32>,
     ) -> Result<Tree, OutOfMemory>
-        requires { IsForest (lists_of leaves parents.items altitudes.items makers.items) }
+        requires { IsWellFormed (lists_of leaves parents.items altitudes.items makers.items) }
         ensures { IfOk result (λ tree. tree ≡ lists_of leaves parents.items altitudes.items makers.items) }
     {
         let _ = alloc;
@@ -54,7 +55,7 @@ impl Tree {
 
     // The tree with these lists.
     pub(crate) fn new(leaves: u32, parents: Vec<u32>, altitudes: Vec<u64>, makers: Vec<u32>) -> Tree
-        requires { IsForest (lists_of leaves parents.items altitudes.items makers.items) }
+        requires { IsWellFormed (lists_of leaves parents.items altitudes.items makers.items) }
         ensures { result ≡ lists_of leaves parents.items altitudes.items makers.items }
     {
         Tree {
@@ -68,7 +69,7 @@ impl Tree {
     /// How many nodes the tree has.
     pub fn nodes(&self) -> u32
         ensures value { result ≡ nodes self.now }
-        ensures forest { IsForest self.now }
+        ensures well_formed { IsWellFormed self.now }
         ensures some_node { 1 ≤ result }
         ensures few_nodes { result ≤ 2097151 }
     {
@@ -215,7 +216,7 @@ impl Tree {
         requires b { b < nodes self.now }
         ensures lowest { MatchOption result ((j : ℕ) → ¬ IsCommon self.now a b j) (λ i. IsLowestAbove self.now a b i) }
         ensures within { IfSome result (λ i. i < nodes self.now) }
-        ensures forest { IsForest self.now }
+        ensures well_formed { IsWellFormed self.now }
     {
         let _ = self.nodes();
         while a != b {
@@ -230,7 +231,7 @@ impl Tree {
         requires b { b < nodes self.now }
         requires apart { a ≢ b }
         ensures within { IfSome result (λ next. (next.0 < nodes self.now) × (next.1 < nodes self.now)) }
-        ensures next { MatchOption result ((j : ℕ) → ¬ IsCommon self.now a b j) (λ next. GoesOn self.now a b next.0 next.1) }
+        ensures next { MatchOption result ((j : ℕ) → ¬ IsCommon self.now a b j) (λ next. KeepsCommon self.now a b next.0 next.1) }
     {
         if a < b {
             Some((self.raised(a, b)?, b))
@@ -245,7 +246,7 @@ impl Tree {
         requires other { other < nodes self.now }
         requires less { least < other }
         ensures within { IfSome result (λ next. next < nodes self.now) }
-        ensures next { MatchOption result ((j : ℕ) → ¬ IsCommon self.now least other j) (λ next. GoesOn self.now least other next other) }
+        ensures next { MatchOption result ((j : ℕ) → ¬ IsCommon self.now least other j) (λ next. KeepsCommon self.now least other next other) }
     {
         let _ = other;
         let _ = self.nodes();

@@ -1,2 +1,2 @@
-pub mod PassLemmas
-pub mod ForestLemmas
+pub mod ZoneNumberLemmas
+pub mod ZonesWellFormed

@@ -1,7 +1,7 @@
 ghost use Rattle.std.specs.Prelude.{◌≡◌, IfOk};
 ghost use Rattle.hg_base.specs.Zones.{zones_of};
-ghost use Rattle.partition_tree.specs.Forest.{lists_of, IsForest};
-ghost use Rattle.quasi_flat_zones.specs.Passes.{AreMarked, AreNearest};
+ghost use Rattle.partition_tree.specs.TreeLists.{lists_of, IsWellFormed};
+ghost use Rattle.quasi_flat_zones.specs.ZoneNumbers.{AreMarked, AreNearestNumbers};
 
 use crate::numbers::{keeps, kept_nodes, nearest_numbers};
 use hg_base::OutOfMemory;
@@ -18,14 +18,14 @@ pub(crate) struct ZoneLists {
 
 /// The lists of the zones of a tree.
 pub(crate) fn zone_lists(alloc: Global, tree: &Tree) -> Result<ZoneLists, OutOfMemory>
-    ensures forest { IfOk result (λ lists. IsForest tree.now) }
+    ensures well_formed { IfOk result (λ lists. IsWellFormed tree.now) }
     ensures lists { IfOk result (λ lists. lists_of tree.now.leaves lists.parents.items lists.altitudes.items lists.makers.items ≡ zones_of tree.now) }
 {
     lists(alloc, tree).map_err(|_| OutOfMemory)
 }
 
 fn lists(alloc: Global, tree: &Tree) -> Result<ZoneLists, AllocError>
-    ensures forest { IfOk result (λ lists. IsForest tree.now) }
+    ensures well_formed { IfOk result (λ lists. IsWellFormed tree.now) }
     ensures lists { IfOk result (λ lists. lists_of tree.now.leaves lists.parents.items lists.altitudes.items lists.makers.items ≡ zones_of tree.now) }
 {
     let marks = kept_nodes(alloc, tree)?;
@@ -45,7 +45,7 @@ fn parents(
     numbers: &[u32],
 ) -> Result<Vec<u32>, AllocError>
     requires marks { AreMarked tree.now marks.now }
-    requires nearest { AreNearest tree.now numbers.now }
+    requires nearest { AreNearestNumbers tree.now numbers.now }
     ensures { IfOk result (λ parents. parents.items ≡ (zones_of tree.now).parents) }
 {
     let mut parents = Vec::with_capacity(alloc, numbers.len())?;

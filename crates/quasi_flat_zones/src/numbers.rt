@@ -1,7 +1,7 @@
 ghost use Rattle.std.specs.Prelude.{◌≡◌, ◌<◌, IfOk};
 ghost use Rattle.hg_base.specs.Zones.{keeps};
-ghost use Rattle.partition_tree.specs.Forest.{nodes, IsForest};
-ghost use Rattle.quasi_flat_zones.specs.Passes.{zone_numbers, AreMarked, AreNearest};
+ghost use Rattle.partition_tree.specs.TreeLists.{nodes, IsWellFormed};
+ghost use Rattle.quasi_flat_zones.specs.ZoneNumbers.{zone_numbers, AreMarked, AreNearestNumbers};
 
 use partition_tree::{Tree, send_down};
 use std::alloc::{AllocError, Global};
@@ -44,8 +44,8 @@ pub(crate) fn nearest_numbers(
     marks: &[bool],
 ) -> Result<Vec<u32>, AllocError>
     requires { AreMarked tree.now marks.now }
-    ensures forest { IfOk result (λ numbers. IsForest tree.now) }
-    ensures nearest { IfOk result (λ numbers. AreNearest tree.now numbers.items) }
+    ensures well_formed { IfOk result (λ numbers. IsWellFormed tree.now) }
+    ensures nearest { IfOk result (λ numbers. AreNearestNumbers tree.now numbers.items) }
 {
     let mut numbers = zone_numbers(alloc, tree, marks)?;
     send_down(
@@ -53,9 +53,7 @@ pub(crate) fn nearest_numbers(
         |i: u32|
             requires { AreMarked tree.now marks.now × (i < nodes tree.now) }
             ensures { result ≡ keeps tree.entry.now i }
-        {
-            keeps(tree, marks, i)
-        },
+        { keeps(tree, marks, i) },
         &mut numbers,
     );
     Ok(numbers)
@@ -64,7 +62,7 @@ pub(crate) fn nearest_numbers(
 // For each node how many kept ones have a lesser number.
 fn zone_numbers(alloc: Global, tree: &Tree, marks: &[bool]) -> Result<Vec<u32>, AllocError>
     requires { AreMarked tree.now marks.now }
-    ensures forest { IfOk result (λ numbers. IsForest tree.now) }
+    ensures well_formed { IfOk result (λ numbers. IsWellFormed tree.now) }
     ensures numbers { IfOk result (λ numbers. numbers.items ≡ zone_numbers tree.now) }
 {
     let nodes = tree.nodes();

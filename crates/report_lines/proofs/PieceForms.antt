@@ -9,23 +9,23 @@ use Rattle.std.specs.Io.KnownBytes.{Appends}
 use Rattle.std.specs.List.{flat_map}
 use Rattle.hg_base.specs.Outside.{AppendsPrefix}
 use Rattle.report_lines.proofs.LineForms.{lines_join}
-use Rattle.report_lines.specs.Lines.{cut, lines_from, lines_of_piece}
+use Rattle.report_lines.specs.Lines.{piece_start, lines_from, lines_of_piece}
 
 -- the text with the lines of one more piece, whose number of pieces is then j
-pub piece_more : (f : ℕ → List ℕ) (old so_far piece new : List ℕ) (n k j : ℕ) → j ≡ k + 1 → so_far ≡ old ++ lines_from f 0 (cut n k) → piece ≡ lines_of_piece f n k → new ≡ so_far ++ piece → new ≡ old ++ lines_from f 0 (cut n j)
+pub piece_more : (f : ℕ → List ℕ) (old so_far piece new : List ℕ) (n k j : ℕ) → j ≡ k + 1 → so_far ≡ old ++ lines_from f 0 (piece_start n k) → piece ≡ lines_of_piece f n k → new ≡ so_far ++ piece → new ≡ old ++ lines_from f 0 (piece_start n j)
 piece_more f old so_far piece new n k j next before own pushed =
     let size : suc k * (n / 16 + 1) ≡ k * (n / 16 + 1) + (n / 16 + 1) = suc-mul k (n / 16 + 1) in
     let other : suc k ≡ k + 1 = omega arith in
-    let rises : cut n k + (cut n (k + 1) - cut n k) ≡ cut n (k + 1) = omega (arith, ap (λ (i : ℕ). i * (n / 16 + 1)) other) in
-    let first : cut n k ≡ 0 + cut n k = omega arith in
+    let rises : piece_start n k + (piece_start n (k + 1) - piece_start n k) ≡ piece_start n (k + 1) = omega (arith, ap (λ (i : ℕ). i * (n / 16 + 1)) other) in
+    let first : piece_start n k ≡ 0 + piece_start n k = omega arith in
     pushed
     ∙ ap (λ (text : List ℕ). text ++ piece) before
-    ∙ append_assoc old (lines_from f 0 (cut n k)) piece
-    ∙ ap (λ (rest : List ℕ). old ++ (lines_from f 0 (cut n k) ++ rest)) own
-    ∙ ap (λ (i : ℕ). old ++ (lines_from f 0 (cut n k) ++ lines_from f i (cut n (k + 1) - cut n k))) first
-    ∙ ap (λ (rest : List ℕ). old ++ rest) (lines_join f 0 (cut n k) (cut n (k + 1) - cut n k))
+    ∙ append_assoc old (lines_from f 0 (piece_start n k)) piece
+    ∙ ap (λ (rest : List ℕ). old ++ (lines_from f 0 (piece_start n k) ++ rest)) own
+    ∙ ap (λ (i : ℕ). old ++ (lines_from f 0 (piece_start n k) ++ lines_from f i (piece_start n (k + 1) - piece_start n k))) first
+    ∙ ap (λ (rest : List ℕ). old ++ rest) (lines_join f 0 (piece_start n k) (piece_start n (k + 1) - piece_start n k))
     ∙ ap (λ (i : ℕ). old ++ lines_from f 0 i) rises
-    ∙ ap (λ (i : ℕ). old ++ lines_from f 0 (cut n i)) (sym next)
+    ∙ ap (λ (i : ℕ). old ++ lines_from f 0 (piece_start n i)) (sym next)
 
 -- a prefix of a piece, behind those before it, is a prefix of the whole
 prefix_behind : (first middle last : Option (List ℕ)) (before piece after : List ℕ) → Appends first middle before → AppendsPrefix middle last piece → AppendsPrefix first last (before ++ (piece ++ after))

@@ -5,7 +5,7 @@ ghost use Rattle.std.specs.declared.alloc.AllocError.{AllocError};
 ghost use Rattle.std.specs.declared.alloc.Global.{Global};
 ghost use Rattle.hg_base.specs.Outside.{HasCause, AppendsPrefix};
 ghost use Rattle.hg_base.specs.Text.{headed_line};
-ghost use Rattle.report_lines.specs.Lines.{cut, lines_from, lines_of_piece};
+ghost use Rattle.report_lines.specs.Lines.{piece_start, lines_from, lines_of_piece};
 
 use crate::lines::{Lines, lines_text};
 use crate::writer::LineWriter;
@@ -156,12 +156,17 @@ fn piece<L: Lines>(alloc: Global, lines: &L, k: usize) -> Result<Vec<u8>, AllocE
     ensures { IfOk result (λ text. text.items ≡ lines_of_piece (L.line lines.now) (L.count lines.now) k) }
 {
     let count = lines.len();
-    lines_text(alloc, lines, cut(count, k), cut(count, k + 1))
+    lines_text(
+        alloc,
+        lines,
+        piece_start(count, k),
+        piece_start(count, k + 1),
+    )
 }
 
 // Where piece k of sixteen begins.
-fn cut(count: usize, k: usize) -> usize
-    ensures { result ≡ cut count k }
+fn piece_start(count: usize, k: usize) -> usize
+    ensures { result ≡ piece_start count k }
 {
     count.min(k.saturating_mul(count / PIECES + 1))
 }

@@ -8,7 +8,7 @@ use Rattle.hg_base.specs.Graph.{WeightedGraph, first_end, second_end}
 use Rattle.hg_base.specs.Tree.{ParentTree}
 use Rattle.hg_base.specs.Levels.{IsClimbing}
 use Rattle.hg_base.proofs.Climbs.{ancestor-root, above-either}
-use Rattle.partition_tree.specs.Forest.{nodes}
+use Rattle.partition_tree.specs.TreeLists.{nodes}
 use Rattle.partition_tree.specs.NearestStops.{AreOfStops}
 use Rattle.partition_tree.specs.Paths.{IsRootOf, ShareRoot}
 use Rattle.partition_tree.proofs.NearestStops.{stop-numbers}

@@ -5,7 +5,7 @@ use Rattle.std.proofs.lemmas.Bool.{ltb-true, ltb-false}
 use Rattle.hg_base.specs.Tree.{ParentTree, parent, altitude}
 use Rattle.hg_base.specs.Levels.{IsClimbing, IsTop}
 use Rattle.hg_base.proofs.Tops.{top-parent, top-self}
-use Rattle.partition_tree.specs.Forest.{nodes}
+use Rattle.partition_tree.specs.TreeLists.{nodes}
 use Rattle.partition_tree.specs.NearestStops.{StopsAt, IsNearestStop, AreOfStops}
 use Rattle.partition_tree.proofs.NearestStops.{stop-induction, stop-numbers, stop-within}
 use Rattle.saliency.specs.Tops.{is_last_to, AreTops}

@@ -4,7 +4,7 @@ ghost use Rattle.hg_base.specs.Labels.{labelling};
 ghost use Rattle.hg_base.specs.Tree.{tree_of};
 ghost use Rattle.hg_base.specs.Saliency.{AreByWeight, at_most};
 ghost use Rattle.hg_base.specs.Levels.{AltitudesRise, shares};
-ghost use Rattle.partition_tree.specs.Forest.{nodes, IsForest};
+ghost use Rattle.partition_tree.specs.TreeLists.{nodes, IsWellFormed};
 ghost use Rattle.saliency.specs.Tops.{is_last_to, AreTops, AreFirstKeys};
 
 use hg_base::{Labels, OutOfMemory, number_keys};
@@ -39,7 +39,7 @@ fn regions(alloc: Global, tree: &Tree, level: u64) -> Result<Labels, AllocError>
 // For each node up to the level the last such node on its path.
 fn tops(alloc: Global, tree: &Tree, level: u64) -> Result<Vec<u32>, AllocError>
     requires { AltitudesRise tree.now }
-    ensures forest { IfOk result (λ tops. IsForest tree.now) }
+    ensures well_formed { IfOk result (λ tops. IsWellFormed tree.now) }
     ensures tops { IfOk result (λ tops. AreTops tree.now level tops.items) }
 {
     let mut tops = own_numbers(alloc, tree.nodes())?;
@@ -48,9 +48,7 @@ fn tops(alloc: Global, tree: &Tree, level: u64) -> Result<Vec<u32>, AllocError>
         |i: u32|
             requires { i < nodes tree.now }
             ensures { result ≡ is_last_to tree.entry.now level i }
-        {
-            level < tree.altitude(tree.parent(i))
-        },
+        { level < tree.altitude(tree.parent(i)) },
         &mut tops,
     );
     Ok(tops)

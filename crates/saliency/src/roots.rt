@@ -30,7 +30,13 @@ fn roots(alloc: Global, tree: &Tree) -> Result<Vec<u32>, AllocError>
     ensures { IfOk result (λ roots. AreRoots tree.now roots.items) }
 {
     let mut roots = own_numbers(alloc, tree.nodes())?;
-    send_down(tree, |_: u32| ensures { result ≡ false } { false }, &mut roots);
+    send_down(
+        tree,
+        |_: u32|
+            ensures { result ≡ false }
+        { false },
+        &mut roots,
+    );
     Ok(roots)
 }
 

@@ -2,7 +2,7 @@ ghost use Rattle.std.specs.Prelude.{◌≡◌, ◌<◌, length, IfOk};
 ghost use Rattle.hg_base.specs.Graph.{first_end, second_end};
 ghost use Rattle.hg_base.specs.Tree.{graph_tree};
 ghost use Rattle.hg_base.specs.Saliencies.{saliency, saliencies};
-ghost use Rattle.saliency.specs.Filling.{CanValue, IsValue};
+ghost use Rattle.saliency.specs.EdgeSaliency.{CanValue, IsValue};
 ghost use Rattle.saliency.specs.Values.{IsLowestAltitude, EndsShareRoots, AreLowestAltitudes, AreSaliencies};
 
 use hg_base::{Graph, OutOfMemory};

@@ -16,7 +16,7 @@ use Rattle.watershed_cut.specs.MinimumTests.{is_minimum, minimum_edges, in_minim
 use Rattle.watershed_cut.specs.Forest.{reaches, is_forest, IsForestList}
 use Rattle.watershed_cut.proofs.Counting.{pile, pile-from, IsFree, free-count, components-one}
 use Rattle.watershed_cut.proofs.ForestWalks.{reaches-to, reaches-from}
-use Rattle.watershed_cut.proofs.Hits.{joined_into, Meets, hits}
+use Rattle.watershed_cut.proofs.JoinedByKind.{joined_into, Meets, hits}
 use Rattle.watershed_cut.proofs.MinimumWalks.{minimum-to, same_minimum-to, in_minimum-to, in_minimum-from, minimum_edges-to}
 use Rattle.watershed_cut.proofs.Star.{IsStar, minimum-reached, star-found}
 

@@ -19,12 +19,12 @@ use Rattle.hg_base.proofs.Leasts.{least_of-agree, least_of-most, map-agree}
 use Rattle.hg_base.proofs.Levels.{level-tree}
 use Rattle.hg_base.proofs.Ranked.{ranked-at, AreApart-ranked, AreByWeight-ranked, IsIn-ranked}
 use Rattle.hg_base.proofs.Ranks.{number_at-below}
-use Rattle.partition_tree.specs.Forest.{IsForest}
-use Rattle.partition_tree.proofs.ForestClimbs.{forest-climbs}
+use Rattle.partition_tree.specs.TreeLists.{IsWellFormed}
+use Rattle.partition_tree.proofs.WellFormed.{well_formed-climbs}
 use Rattle.partition_tree.proofs.TreeLemmas.{tree-rises}
 use Rattle.watershed_cut.specs.MinimumTests.{is_minimum, in_minimum, same_minimum, is_head, minimum_count, vertex_label, edge_label}
 use Rattle.watershed_cut.specs.MinimumLabels.{numbered, minima_of}
-use Rattle.watershed_cut.specs.Passes.{ArePlateauKeys, HasTwoEnds, level_label, level_labels}
+use Rattle.watershed_cut.specs.Plateaus.{ArePlateauKeys, HasTwoEnds, level_label, level_labels}
 use Rattle.watershed_cut.proofs.MinimumWalks.{minimum-to, minimum-from, in_minimum-to, minimum-next}
 use Rattle.watershed_cut.proofs.PlateauLaws.{IsLevelled, leaf-node, minimum-leaf}
 use Rattle.watershed_cut.proofs.PlateauKeys.{key-member, key-same}
@@ -57,7 +57,7 @@ graph-rise g t same =
     subst (λ (u : ParentTree). (i : ℕ) → i < length u.parents → altitude u i ≤ altitude u (parent u i)) (sym same) (tree-rises g.n (ranked g) (AreApart-ranked g) (AreByWeight-ranked g))
 
 -- the tree of a graph tells the levels of its edges
-pub graph-levelled : (g : WeightedGraph) (t : ParentTree) → t ≡ graph_tree g → IsForest t → ((e : ℕ) → e < length g.edges → HasTwoEnds g e) → IsLevelled t (ranked g)
+pub graph-levelled : (g : WeightedGraph) (t : ParentTree) → t ≡ graph_tree g → IsWellFormed t → ((e : ℕ) → e < length g.edges → HasTwoEnds g e) → IsLevelled t (ranked g)
 graph-levelled g t same f ends =
     let leaves : t.leaves ≡ g.n = ap (λ (u : ParentTree). u.leaves) same in
     let within : AreWithin g.n (ranked g) = λ e i. (let r = ranked-ends g ends e i in
@@ -146,7 +146,7 @@ edge-same g t l leaves vertices are ends e h = elim (cases_Bool (is_minimum s ow
     ])
 
 -- what the passes give
-pub minima-made : (g : WeightedGraph) (t : ParentTree) (keys slice : List (Option ℕ)) (count : ℕ) (vertices part edges : List ℕ) → t ≡ graph_tree g → IsForest t → ArePlateauKeys t t.leaves keys → slice ≡ keys →
+pub minima-made : (g : WeightedGraph) (t : ParentTree) (keys slice : List (Option ℕ)) (count : ℕ) (vertices part edges : List ℕ) → t ≡ graph_tree g → IsWellFormed t → ArePlateauKeys t t.leaves keys → slice ≡ keys →
     ((e : ℕ) → e < length g.edges → HasTwoEnds g e) → vertices ≡ map (key_label slice) (range_with_len 0 (length slice)) → count ≡ count_below (is_key_head slice) (length slice) →
     part ≡ vertices → edges ≡ level_labels g t part → record { count = count; vertices = vertices; edges = edges } ≡ minima_of g
 minima-made g t keys slice count vertices part edges same f k whole ends are many one labels =
@@ -186,7 +186,7 @@ minima-made g t keys slice count vertices part edges same f k whole ends are man
         (λ e low h. edge-same g t l leaves part (one ∙ labelled) ends e (omega arith))
 
 -- each key is below the number of nodes
-pub keys-below : (t : ParentTree) (n : ℕ) (keys slice : List (Option ℕ)) → IsForest t → ArePlateauKeys t t.leaves keys → slice ≡ keys → n ≡ length t.parents → All (λ (key : Option ℕ). IfSome key (λ k. k < n)) slice
+pub keys-below : (t : ParentTree) (n : ℕ) (keys slice : List (Option ℕ)) → IsWellFormed t → ArePlateauKeys t t.leaves keys → slice ≡ keys → n ≡ length t.parents → All (λ (key : Option ℕ). IfSome key (λ k. k < n)) slice
 keys-below t n keys slice f k same all =
     subst (λ (xs : List (Option ℕ)). All (λ (key : Option ℕ). IfSome key (λ j. j < n)) xs) (sym same) (subst (λ (b : ℕ). All (λ (key : Option ℕ). IfSome key (λ j. j < b)) keys) (sym all) each)
   where
@@ -195,7 +195,7 @@ keys-below t n keys slice f k same all =
         let long = k.one_each in
         let hx : x < t.leaves = omega arith in
         let key = k.each x hx in
-        let c = forest-climbs t f in
+        let c = well_formed-climbs t f in
         subst (λ (o : Option ℕ). IfSome o (λ j. j < length t.parents)) (sym (get_or_default keys x d None h)) (elim key.1.1 [
           | inl own ↦ subst (λ (o : Option ℕ). IfSome o (λ j. j < length t.parents)) (sym own.0) (above-within t c key.0 (parent t x) (c.within x (leaf-node t f x hx)) key.1.0.above)
           | inr none' ↦ subst (λ (o : Option ℕ). IfSome o (λ j. j < length t.parents)) (sym none'.0) tt

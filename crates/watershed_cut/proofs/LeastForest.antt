@@ -18,11 +18,11 @@ use Rattle.watershed_cut.specs.MinimumTests.{minimum_edges, in_minimum}
 use Rattle.watershed_cut.specs.MinimumLabels.{numbered}
 use Rattle.watershed_cut.specs.Forest.{IsForestList, forest}
 use Rattle.watershed_cut.specs.Rooted.{IsRooted, cost}
-use Rattle.watershed_cut.proofs.Cheapest.{weights, weighs-no_more, weights-map}
+use Rattle.watershed_cut.proofs.LightLists.{weights, weighs-no_more, weights-map}
 use Rattle.watershed_cut.proofs.Counting.{pile, pile-from, pile-to, most-count, components-more, components-one}
 use Rattle.watershed_cut.proofs.ForestLaws.{IsLowerTest, forest-joins, forest-length, minimum-ends}
 use Rattle.watershed_cut.proofs.GraphForest.{all-to, graph-forest}
-use Rattle.watershed_cut.proofs.Hits.{joined_into}
+use Rattle.watershed_cut.proofs.JoinedByKind.{joined_into}
 use Rattle.watershed_cut.proofs.MinimumWalks.{in_minimum-from}
 use Rattle.watershed_cut.proofs.Star.{IsStar, star-found, in-map}
 

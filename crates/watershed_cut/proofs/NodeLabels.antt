@@ -21,11 +21,11 @@ use Rattle.hg_base.proofs.Walks.{IsSame-joined, joined-ends, Joined-joined}
 use Rattle.watershed_cut.specs.Minima.{IsMinimumEdge, InMinimum}
 use Rattle.watershed_cut.specs.MinimumTests.{is_minimum, minimum_edges}
 use Rattle.watershed_cut.specs.Forest.{reaches, is_forest, trees}
-use Rattle.watershed_cut.specs.TreePasses.{IsNearest, maker_first, maker_second, held_end, AreNodeLabels, AreNearest}
+use Rattle.watershed_cut.specs.NearestHolders.{IsNearestHolder, maker_first, maker_second, held_end, AreNodeLabels, AreNearestHolders}
 use Rattle.watershed_cut.specs.Watershed.{tree_label}
 use Rattle.watershed_cut.proofs.ForestWalks.{reaches-from}
 use Rattle.watershed_cut.proofs.MinimumWalks.{minimum-to}
-use Rattle.watershed_cut.proofs.NearLaws.{AreLabelled, reaches-along, holds-to, nearest-holds, nearest-before, alone-joined}
+use Rattle.watershed_cut.proofs.HolderLaws.{AreLabelled, reaches-along, holds-to, nearest-holds, nearest-before, alone-joined}
 use Rattle.watershed_cut.proofs.TreeLabels.{tree-label, tree-label_same}
 
 -- the edge that made a node, by its number
@@ -78,7 +78,7 @@ in-trees n s x y j = joined-among (filter (is_forest n s) s) (trees n s) x y (λ
 pub record IsSetting (g : WeightedGraph) (vertices near labels : List ℕ) : Type 0 where
   pub within : AreWithin g.n (ranked g)
   pub labelled : AreLabelled g.n (ranked g) vertices
-  pub nearest : AreNearest (graph_tree g) vertices near
+  pub nearest : AreNearestHolders (graph_tree g) vertices near
   pub nodes : AreNodeLabels g (graph_tree g) vertices near labels
 
 -- one end of the edge of node q reaches no minimum before it, and the other one does
@@ -97,7 +97,7 @@ one-end g vertices near labels set' e i x y hx my a b off =
     ]
 
 -- the nearest node above a vertex
-near-of : (g : WeightedGraph) (vertices near labels : List ℕ) → IsSetting g vertices near labels → (x : ℕ) → x < g.n → IsNearest (graph_tree g) vertices x (get_or near x 0)
+near-of : (g : WeightedGraph) (vertices near labels : List ℕ) → IsSetting g vertices near labels → (x : ℕ) → x < g.n → IsNearestHolder (graph_tree g) vertices x (get_or near x 0)
 near-of g vertices near labels set' x hx = set'.nearest.each x (let long : length (graph_tree g).parents ≡ g.n + length (joins (ranked g)) = length-parents g.n (ranked g) in omega arith)
 
 pub near-before : (g : WeightedGraph) (vertices near labels : List ℕ) → IsSetting g vertices near labels → (e : ListedEdge) → IsIn e (joins (ranked g)) → (x : ℕ) → x < g.n →
@@ -129,7 +129,7 @@ made-label g vertices near labels set' e i x hx at before =
     q : ℕ
     q = g.n + place (ranked g) e
 
-    nx : IsNearest (graph_tree g) vertices x (get_or near x 0)
+    nx : IsNearestHolder (graph_tree g) vertices x (get_or near x 0)
     nx = near-of g vertices near labels set' x hx
 
     off : reaches n s e.rank x ≡ false

@@ -15,8 +15,8 @@ use Rattle.watershed_cut.specs.Forest.{forest, is_forest, trees}
 use Rattle.watershed_cut.specs.MinimumLabels.{numbered}
 use Rattle.watershed_cut.specs.MinimumTests.{minimum_edges}
 use Rattle.watershed_cut.specs.Rooted.{planted}
-use Rattle.watershed_cut.specs.Watershed.{IsWatershed, WatershedCut, is_cut, tree_label, watershed_of}
-use Rattle.watershed_cut.proofs.AnyIn.{range-from, range-to}
+use Rattle.watershed_cut.specs.Watershed.{IsWatershed, WatershedCut, is_cut_edge, tree_label, watershed_of}
+use Rattle.partition_tree.proofs.ListTests.{range-from, range-to}
 use Rattle.watershed_cut.proofs.GraphForest.{forest-rooted, graph-forest}
 use Rattle.watershed_cut.proofs.LeastForest.{forest-least}
 use Rattle.watershed_cut.proofs.TreeLabels.{cut-between, tree-label_walk}
@@ -46,7 +46,7 @@ trees-joined : (g : WeightedGraph) (x y : ℕ) → Joined (trees g.n (ranked g))
 trees-joined g x y j = Joined-joined (planted g (forest g)) x y (joined-among (trees g.n (ranked g)) (planted g (forest g)) x y (in-planted g) (holds (trees g.n (ranked g)) x y j))
 
 -- an edge of the cut is one whose ends lie in different trees
-cut-test : (g : WeightedGraph) → IsGraph g → (e : ℕ) → e < length g.edges → (is_cut g e ≡ true) ↔ (¬ Joined (planted g (forest g)) (first_end g e) (second_end g e))
+cut-test : (g : WeightedGraph) → IsGraph g → (e : ℕ) → e < length g.edges → (is_cut_edge g e ≡ true) ↔ (¬ Joined (planted g (forest g)) (first_end g e) (second_end g e))
 cut-test g is e h = (
   λ c j. (cut-between g is e h).0 c (joined-trees g (first_end g e) (second_end g e) j),
   λ apart. (cut-between g is e h).1 (λ j. apart (trees-joined g (first_end g e) (second_end g e) j)),
@@ -55,12 +55,12 @@ cut-test g is e h = (
 -- the cut's numbers are those of these edges
 cut-member : (g : WeightedGraph) → IsGraph g → (e : ℕ) → IsIn e (watershed_of g).cut ↔ ((e < length g.edges) × (¬ Joined (planted g (forest g)) (first_end g e) (second_end g e)))
 cut-member g is e = (
-  λ i. (let k = IsIn-kept (is_cut g) e (numbers g) i in
+  λ i. (let k = IsIn-kept (is_cut_edge g) e (numbers g) i in
       let high : e < 0 + length g.edges = (range-to 0 (length g.edges) e k.1).1 in
       let low : e < length g.edges = omega (arith, high) in
       (low, (cut-test g is e low).0 k.0)),
   λ p. (let low : e < length g.edges = p.0 in
-      IsIn-filter (is_cut g) e (numbers g) ((cut-test g is e low).1 p.1) (range-from 0 (length g.edges) e (omega arith) (omega (arith, low)))),
+      IsIn-filter (is_cut_edge g) e (numbers g) ((cut-test g is e low).1 p.1) (range-from 0 (length g.edges) e (omega arith) (omega (arith, low)))),
 )
 
 -- the watershed cut of a graph is one

@@ -11,16 +11,16 @@ use Rattle.hg_base.proofs.Walks.{joined-ends, Joined-joined}
 use Rattle.hg_base.proofs.Climbs.{ancestor-first, ancestor-root, ancestor-within, above-on, above-next, above-either, above-within, above-altitude}
 use Rattle.hg_base.proofs.Tops.{is_above-from, is_above-to, top-above}
 use Rattle.hg_base.proofs.Weights.{Joined-heavier}
-use Rattle.partition_tree.specs.Forest.{IsForest}
-use Rattle.partition_tree.proofs.ForestClimbs.{forest-climbs, forest-leaves}
+use Rattle.partition_tree.specs.TreeLists.{IsWellFormed}
+use Rattle.partition_tree.proofs.WellFormed.{well_formed-climbs, well_formed-leaves}
 use Rattle.watershed_cut.specs.Minima.{IsEnd, IsMinimumEdge}
-use Rattle.watershed_cut.specs.Passes.{IsPlateau, IsOverLower}
+use Rattle.watershed_cut.specs.Plateaus.{IsPlateau, IsOverLower}
 use Rattle.watershed_cut.proofs.MinimumWalks.{step-first}
-use Rattle.watershed_cut.proofs.Quiet.{IsQuiet, at_most-to, at_most-from}
+use Rattle.watershed_cut.proofs.MinimumByWeight.{IsQuiet, at_most-to, at_most-from}
 
 -- a tree that tells who is joined at each level by the edges of s, which join two leaves each
 pub record IsLevelled (t : ParentTree) (s : EdgeList) : Type 0 where
-  pub forest : IsForest t
+  pub well_formed : IsWellFormed t
   pub rise : AltitudesRise t
   pub levels : IsLevelTree t s
   pub first : (e : ListedEdge) → IsIn e s → e.u < t.leaves
@@ -28,8 +28,8 @@ pub record IsLevelled (t : ParentTree) (s : EdgeList) : Type 0 where
   pub apart : (e : ListedEdge) → IsIn e s → e.u ≡ e.v → ⊥
 
 -- a leaf is a node
-pub leaf-node : (t : ParentTree) → IsForest t → (x : ℕ) → x < t.leaves → x < length t.parents
-leaf-node t f x h = let few = forest-leaves t f in omega arith
+pub leaf-node : (t : ParentTree) → IsWellFormed t → (x : ℕ) → x < t.leaves → x < length t.parents
+leaf-node t f x h = let few = well_formed-leaves t f in omega arith
 
 -- an end of an edge is a leaf
 pub end-leaf : (t : ParentTree) (s : EdgeList) → IsLevelled t s → (e : ListedEdge) (x : ℕ) → IsIn e s → IsEnd x e → x < t.leaves
@@ -37,11 +37,11 @@ end-leaf t s l e x i (inl u) = subst (λ (z : ℕ). z < t.leaves) u (l.first e i
 end-leaf t s l e x i (inr v) = subst (λ (z : ℕ). z < t.leaves) v (l.second e i)
 
 -- a leaf is above itself alone
-pub leaf-self : (t : ParentTree) → IsForest t → (x y : ℕ) → x < t.leaves → y < length t.parents → IsAbove t x y → y ≡ x
+pub leaf-self : (t : ParentTree) → IsWellFormed t → (x y : ℕ) → x < t.leaves → y < length t.parents → IsAbove t x y → y ≡ x
 leaf-self t f x y hx hy (zero, e) = e
 leaf-self t f x y hx hy (suc d, e) =
     let z = ancestor t d y in
-    let hz : z < length t.parents = ancestor-within t (forest-climbs t f) d y hy in
+    let hz : z < length t.parents = ancestor-within t (well_formed-climbs t f) d y hy in
     elim (cases_eq (parent t z) z) [
       | inl root ↦ leaf-self t f x y hx hy (d, sym root ∙ e)
       | inr other ↦ absurd (let inner : t.leaves ≤ parent t z = f.inner z hz other in omega arith)
@@ -58,7 +58,7 @@ top-below t s l k x j y hx hy top a = Joined-heavier s (altitude t j) k x y top.
 pub top-over : (t : ParentTree) (s : EdgeList) → IsLevelled t s → (k x j y : ℕ) → x < t.leaves → y < t.leaves → IsTop t k x j → Joined (at_most s k) x y → IsAbove t j y
 top-over t s l k x j y hx hy top w =
     let i = l.levels.one_above k x hx in
-    above-on t j i.0 y (top-above t (forest-climbs t l.forest) l.rise k x j i.0 (leaf-node t l.forest x hx) top (i.1.1 x hx ([], refl)) i.1.0) (i.1.1 y hy w)
+    above-on t j i.0 y (top-above t (well_formed-climbs t l.forest) l.rise k x j i.0 (leaf-node t l.forest x hx) top (i.1.1 x hx ([], refl)) i.1.0) (i.1.1 y hy w)
 
 -- a light edge at a vertex
 pub record IsLightEdge (s : EdgeList) (k x : ℕ) (e : ListedEdge) : Type 0 where
@@ -85,7 +85,7 @@ edge-below t s l i x hi hx a other = elim (least_below (λ y. is_above t i y && 
     to : ((y : ℕ) → y < t.leaves → (is_above t i y && not (y == x)) ≡ false) → (y : ℕ) → y < t.leaves → IsAbove t i y → IsAbove t x y
     to none' y hy b = elim (cases_eq y x) [
       | inl same ↦ (0, same)
-      | inr unlike ↦ absurd (both_ways _ (none' y hy) (and_from _ _ (is_above-from t (forest-climbs t l.forest) i y (leaf-node t l.forest y hy) b) (not_from_false _ (ne_eqb y x unlike))))
+      | inr unlike ↦ absurd (both_ways _ (none' y hy) (and_from _ _ (is_above-from t (well_formed-climbs t l.forest) i y (leaf-node t l.forest y hy) b) (not_from_false _ (ne_eqb y x unlike))))
     ]
 
     from : (y : ℕ) → y < t.leaves → IsAbove t x y → IsAbove t i y
@@ -113,7 +113,7 @@ edge-node t s l e m =
           | inl leaf ↦ absurd (l.apart e m (leaf-self t l.forest i e.u leaf hu au ∙ sym (leaf-self t l.forest i e.v leaf hv av)))
           | inr inner' ↦ inner'
         ];
-        node = above-within t (forest-climbs t l.forest) i e.u hu au;
+        node = above-within t (well_formed-climbs t l.forest) i e.u hu au;
         above = λ x ends. end_above i au av x ends;
       },
     )
@@ -130,7 +130,7 @@ plateau-altitude t c rise i j h p = let low = p.low in let high = above-altitude
 drop-found : (t : ParentTree) (s : EdgeList) → IsLevelled t s → (k j d i : ℕ) → t.leaves ≤ i → i < length t.parents → altitude t i < k → ancestor t d i ≡ j → altitude t j ≡ k → IsTop t k j j → IsOverLower t j
 drop-found t s l k j zero i inner hi low e level top = absurd (let same : altitude t i ≡ altitude t j = ap (altitude t) e in omega arith)
 drop-found t s l k j (suc d) i inner hi low e level top =
-    let c = forest-climbs t l.forest in
+    let c = well_formed-climbs t l.forest in
     let p = parent t i in
     let hp : p < length t.parents = c.within i hi in
     let up : i ≤ p = c.rises i hi in
@@ -155,7 +155,7 @@ drop-found t s l k j (suc d) i inner hi low e level top =
 pub quiet-from : (t : ParentTree) (s : EdgeList) → IsLevelled t s → (k x j : ℕ) → x < t.leaves → IsTop t k x j → altitude t j ≡ k → (¬ IsOverLower t j) → IsQuiet s k x
 quiet-from t s l k x j hx top level none' y f w i ends = elim (cases_lt f.weight k) [
   | inl lower ↦
-      let c = forest-climbs t l.forest in
+      let c = well_formed-climbs t l.forest in
       let hy : y < t.leaves = end-leaf t s l f y i ends in
       let n = edge-node t s l f i in
       let light : altitude t n.0 ≤ f.weight = n.1.light in
@@ -171,7 +171,7 @@ quiet-from t s l k x j hx top level none' y f w i ends = elim (cases_lt f.weight
 -- and where it is over one, it isn't
 pub quiet-not : (t : ParentTree) (s : EdgeList) → IsLevelled t s → (k x j : ℕ) → x < t.leaves → IsTop t k x j → altitude t j ≡ k → IsOverLower t j → IsQuiet s k x → ⊥
 quiet-not t s l k x j hx top level o q =
-    let c = forest-climbs t l.forest in
+    let c = well_formed-climbs t l.forest in
     let i = o.0 in
     let drop' = o.1.0 in
     let y = l.levels.some_leaf i drop'.node in
@@ -192,7 +192,7 @@ pub record IsMinimumLeaf (t : ParentTree) (x k : ℕ) : Type 0 where
 
 pub minimum-leaf : (t : ParentTree) (s : EdgeList) → IsLevelled t s → (e : ListedEdge) (x : ℕ) → IsMinimumEdge s e → IsEnd x e → IsMinimumLeaf t x e.weight
 minimum-leaf t s l e x m ends =
-    let c = forest-climbs t l.forest in
+    let c = well_formed-climbs t l.forest in
     let hx : x < t.leaves = end-leaf t s l e x m.member ends in
     let nx = leaf-node t l.forest x hx in
     let n = edge-node t s l e m.member in

@@ -20,8 +20,8 @@ use Rattle.hg_base.proofs.Walks.{IsSame-joined, Joined-joined}
 use Rattle.watershed_cut.specs.Minima.{InMinimum, SameMinimum}
 use Rattle.watershed_cut.specs.MinimumTests.{minimum_edges, in_minimum, same_minimum, is_head, minimum_count, vertex_label}
 use Rattle.watershed_cut.specs.Forest.{is_forest, trees, IsForestList}
-use Rattle.watershed_cut.specs.Watershed.{reaches_label, tree_label, is_cut}
-use Rattle.watershed_cut.proofs.AnyIn.{any-from, any-to, range-to, range-from}
+use Rattle.watershed_cut.specs.Watershed.{reaches_label, tree_label, is_cut_edge}
+use Rattle.partition_tree.proofs.ListTests.{any-from, any-to, range-to, range-from}
 use Rattle.watershed_cut.proofs.ForestLaws.{forest-reach, forest-one}
 use Rattle.watershed_cut.proofs.ForestWalks.{label-zero}
 use Rattle.watershed_cut.proofs.MinimumWalks.{in_minimum-to, in_minimum-from, same_minimum-to, same_minimum-from}
@@ -195,7 +195,7 @@ pub tree-label_walk : (n : ℕ) (s : EdgeList) → AreApart s → AreWithin n s 
 tree-label_walk n s apart within x y my j = tree-label n s apart within x y my (holds (trees n s) x y j)
 
 -- the cut edges lead from tree to tree
-pub cut-between : (g : WeightedGraph) → IsGraph g → (e : ℕ) → e < length g.edges → (is_cut g e ≡ true) ↔ (¬ Joined (trees g.n (ranked g)) (first_end g e) (second_end g e))
+pub cut-between : (g : WeightedGraph) → IsGraph g → (e : ℕ) → e < length g.edges → (is_cut_edge g e ≡ true) ↔ (¬ Joined (trees g.n (ranked g)) (first_end g e) (second_end g e))
 cut-between g h e lt =
     let s = ranked g in
     let ends = ends-within g h e lt in

@@ -15,14 +15,14 @@ use Rattle.hg_base.proofs.Leasts.{map-agree}
 use Rattle.hg_base.proofs.Ranked.{AreApart-ranked, IsIn-ranked}
 use Rattle.hg_base.proofs.Sets.{same_test, IsIn-joins, IsIn-joins_kept}
 use Rattle.hg_base.proofs.TreeNodes.{made-within}
-use Rattle.partition_tree.specs.Forest.{IsForest}
+use Rattle.partition_tree.specs.TreeLists.{IsWellFormed}
 use Rattle.watershed_cut.specs.MinimumTests.{is_minimum, minimum_count, vertex_label, edge_label}
 use Rattle.watershed_cut.specs.MinimumLabels.{LabelledMinima, numbered, minima_of}
 use Rattle.watershed_cut.specs.Forest.{reaches, is_forest, forest}
-use Rattle.watershed_cut.specs.Passes.{HasTwoEnds}
-use Rattle.watershed_cut.specs.TreePasses.{AreNearest, makes_forest, maker_first, maker_second, AreChosen, AreNodeLabels, cut_by}
-use Rattle.watershed_cut.specs.Watershed.{WatershedCut, tree_label, tree_labelling, is_cut, watershed_of}
-use Rattle.watershed_cut.proofs.FilterPasses.{filter_agree-range}
+use Rattle.watershed_cut.specs.Plateaus.{HasTwoEnds}
+use Rattle.watershed_cut.specs.NearestHolders.{AreNearestHolders, makes_forest, maker_first, maker_second, AreChosen, AreNodeLabels, edges_cut_by}
+use Rattle.watershed_cut.specs.Watershed.{WatershedCut, tree_label, tree_labelling, is_cut_edge, watershed_of}
+use Rattle.watershed_cut.proofs.MarkedNumbers.{filter_agree-range}
 use Rattle.watershed_cut.proofs.GraphForest.{ranked-numbered}
 use Rattle.watershed_cut.proofs.LabelLemmas.{ranked-ends}
 use Rattle.watershed_cut.proofs.MinimumWalks.{minimum-to, in_minimum-from}
@@ -115,13 +115,13 @@ pub record AreFound (g : WeightedGraph) (t : ParentTree) (minima : LabelledMinim
   pub of_graph : minima ≡ minima_of g
   pub some : 1 ≤ g.n
   pub few : g.n ≤ 1048576
-  pub nearest : AreNearest t minima.vertices near
+  pub nearest : AreNearestHolders t minima.vertices near
   pub picked : AreChosen g t near minima.edges chosen
   pub inner : AreNodeLabels g t minima.vertices near nodes
   pub outer : labels ≡ map (λ x. get_or nodes (get_or near x 0) 0) (range_with_len 0 t.leaves)
   pub kept : forest' ≡ filter (λ e. get_or chosen e false) (range_with_len 0 (length chosen))
   pub ends : (e : ℕ) → e < length g.edges → HasTwoEnds g e
-  pub between : cut ≡ cut_by g labels
+  pub between : cut ≡ edges_cut_by g labels
 
 -- labels, forest and cut of the graph's watershed, which are a labelling
 pub record IsWatershedOf (g : WeightedGraph) (labels forest' cut : List ℕ) (count : ℕ) : Type 0 where
@@ -134,7 +134,7 @@ watershed-made g t minima near labels nodes forest' cut chosen count counted f =
   result =
       let with_labels : Labelling → WatershedCut = λ l. record { labels = l; cut = cut; forest = forest' } in
       let with_cut : List ℕ → WatershedCut = λ c. record { labels = tree_labelling g; cut = c; forest = forest' } in
-      let with_forest : List ℕ → WatershedCut = λ l. record { labels = tree_labelling g; cut = filter (is_cut g) (numbers g); forest = l } in
+      let with_forest : List ℕ → WatershedCut = λ l. record { labels = tree_labelling g; cut = filter (is_cut_edge g) (numbers g); forest = l } in
       ap with_labels labelled ∙ ap with_cut cut_is ∙ ap with_forest forest_is;
 }
   where
@@ -151,7 +151,7 @@ watershed-made g t minima near labels nodes forest' cut chosen count counted f =
     set' = record {
       within = within;
       labelled = λ x h. get_or-map-range_with_len (vertex_label g.n s) 0 g.n x x 0 h (omega arith);
-      nearest = subst (λ (m : LabelledMinima). AreNearest (graph_tree g) m.vertices near) f.of_graph (subst (λ (u : ParentTree). AreNearest u minima.vertices near) f.tree f.nearest);
+      nearest = subst (λ (m : LabelledMinima). AreNearestHolders (graph_tree g) m.vertices near) f.of_graph (subst (λ (u : ParentTree). AreNearestHolders u minima.vertices near) f.tree f.nearest);
       nodes = subst (λ (m : LabelledMinima). AreNodeLabels g (graph_tree g) m.vertices near nodes) f.of_graph (subst (λ (u : ParentTree). AreNodeLabels g u minima.vertices near nodes) f.tree f.inner);
     }
 
@@ -185,8 +185,8 @@ watershed-made g t minima near labels nodes forest' cut chosen count counted f =
     label-at : (x : ℕ) → x < g.n → get_or labels x 0 ≡ tree_label g.n s x
     label-at x h = ap (λ (xs : List ℕ). get_or xs x 0) labels-are ∙ get_or-map-range_with_len (tree_label g.n s) 0 g.n x x 0 h (omega arith)
 
-    cut_is : cut ≡ filter (is_cut g) (numbers g)
-    cut_is = f.between ∙ filter_agree-range (λ e. not (get_or labels (first_end g e) 0 == get_or labels (second_end g e) 0)) (is_cut g) 0 (length g.edges)
+    cut_is : cut ≡ filter (is_cut_edge g) (numbers g)
+    cut_is = f.between ∙ filter_agree-range (λ e. not (get_or labels (first_end g e) 0 == get_or labels (second_end g e) 0)) (is_cut_edge g) 0 (length g.edges)
         (λ e low h.
         let two = f.ends e (omega arith) in
         ap (λ (k : ℕ). not (k == get_or labels (second_end g e) 0)) (label-at (first_end g e) two.first) ∙ ap (λ (k : ℕ). not (tree_label g.n s (first_end g e) == k)) (label-at (second_end g e) two.second))
@@ -205,10 +205,10 @@ minima-lengths g t minima same of_graph = (
 )
 
 -- the same of the slices that were handed over
-pub watershed-found : (g : WeightedGraph) (t : ParentTree) (minima : LabelledMinima) (near part third labels fourth forest' cut : List ℕ) (chosen second : List Bool) (count : ℕ) → t ≡ graph_tree g → minima ≡ minima_of g → IsForest t →
-    AreNearest t minima.vertices near → part ≡ near → AreChosen g t part minima.edges chosen → second ≡ chosen → forest' ≡ filter (λ e. get_or second e false) (range_with_len 0 (length second)) →
+pub watershed-found : (g : WeightedGraph) (t : ParentTree) (minima : LabelledMinima) (near part third labels fourth forest' cut : List ℕ) (chosen second : List Bool) (count : ℕ) → t ≡ graph_tree g → minima ≡ minima_of g → IsWellFormed t →
+    AreNearestHolders t minima.vertices near → part ≡ near → AreChosen g t part minima.edges chosen → second ≡ chosen → forest' ≡ filter (λ e. get_or second e false) (range_with_len 0 (length second)) →
     third ≡ near → ((nodes : List ℕ) × (AreNodeLabels g t minima.vertices third nodes × (labels ≡ map (λ x. get_or nodes (get_or third x 0) 0) (range_with_len 0 t.leaves)))) →
-    fourth ≡ labels → ((e : ℕ) → e < length g.edges → HasTwoEnds g e) → cut ≡ cut_by g fourth → count ≡ minima.count → IsWatershedOf g labels forest' cut count
+    fourth ≡ labels → ((e : ℕ) → e < length g.edges → HasTwoEnds g e) → cut ≡ edges_cut_by g fourth → count ≡ minima.count → IsWatershedOf g labels forest' cut count
 watershed-found g t minima near part third labels fourth forest' cut chosen second count same of_graph f nearest one picked two kept three inner four ends between counted =
     let leaves : t.leaves ≡ g.n = ap (λ (u : ParentTree). u.leaves) same in
     watershed-made g t minima near labels inner.0 forest' cut chosen count counted (record {
@@ -222,5 +222,5 @@ watershed-found g t minima near part third labels fourth forest' cut chosen seco
       outer = inner.1.1 ∙ ap (λ (xs : List ℕ). map (λ x. get_or inner.0 (get_or xs x 0) 0) (range_with_len 0 t.leaves)) three;
       kept = kept ∙ ap (λ (xs : List Bool). filter (λ e. get_or xs e false) (range_with_len 0 (length xs))) two;
       ends = ends;
-      between = between ∙ ap (cut_by g) four;
+      between = between ∙ ap (edges_cut_by g) four;
     })

@@ -6,6 +6,6 @@ pub mod Rooted
 pub mod Watershed
 pub mod Report
 pub mod MinimaFields
-pub mod Passes
-pub mod TreePasses
+pub mod Plateaus
+pub mod NearestHolders
 pub mod WatershedFields

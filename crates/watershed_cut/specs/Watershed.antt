@@ -23,8 +23,8 @@ abbrev pub tree_labelling : WeightedGraph → Labelling
 tree_labelling g = record { labels = map (tree_label g.n (ranked g)) (range_with_len 0 g.n); count = minimum_count g.n (ranked g) }
 
 -- the ends of edge number e have different labels
-abbrev pub is_cut : WeightedGraph → ℕ → Bool
-is_cut g e = not (tree_label g.n (ranked g) (first_end g e) == tree_label g.n (ranked g) (second_end g e))
+abbrev pub is_cut_edge : WeightedGraph → ℕ → Bool
+is_cut_edge g e = not (tree_label g.n (ranked g) (first_end g e) == tree_label g.n (ranked g) (second_end g e))
 
 -- a watershed cut as contracts see it: the labels of the vertices, and the numbers of the cut edges and of the
 -- forest's edges, rising
@@ -35,7 +35,7 @@ pub record WatershedCut : Type 0 where
 
 -- the watershed cut of a graph
 abbrev pub watershed_of : WeightedGraph → WatershedCut
-watershed_of g = record { labels = tree_labelling g; cut = filter (is_cut g) (numbers g); forest = forest g }
+watershed_of g = record { labels = tree_labelling g; cut = filter (is_cut_edge g) (numbers g); forest = forest g }
 
 -- The forest is rooted in the minima, so that it and the minimum edges join each vertex to exactly one minimum, and no list
 -- of edges that is rooted so weighs less. Each vertex has the label of that minimum. The cut holds exactly the edges whose

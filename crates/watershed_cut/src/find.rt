@@ -4,8 +4,8 @@ ghost use Rattle.hg_base.specs.Graph.{first_end, second_end};
 ghost use Rattle.hg_base.specs.Tree.{graph_tree};
 ghost use Rattle.edge_order.specs.Order.{order_of};
 ghost use Rattle.watershed_cut.specs.MinimumLabels.{minima_of};
-ghost use Rattle.watershed_cut.specs.Passes.{HasTwoEnds};
-ghost use Rattle.watershed_cut.specs.TreePasses.{cut_by};
+ghost use Rattle.watershed_cut.specs.Plateaus.{HasTwoEnds};
+ghost use Rattle.watershed_cut.specs.NearestHolders.{edges_cut_by};
 ghost use Rattle.watershed_cut.specs.Watershed.{IsWatershed, watershed_of};
 
 use crate::cuts::Watershed;
@@ -80,11 +80,11 @@ fn numbers_of(alloc: Global, marks: &[bool]) -> Result<Vec<u32>, AllocError>
 fn cut_edges(alloc: Global, graph: &Graph, labels: &[u32]) -> Result<Vec<u32>, AllocError>
     requires { length labels.now ≡ graph.now.n }
     ensures ends { IfOk result (λ cut. (e : ℕ) → e < length graph.now.edges → HasTwoEnds graph.now e) }
-    ensures cut { IfOk result (λ cut. cut.items ≡ cut_by graph.now labels.now) }
+    ensures cut { IfOk result (λ cut. cut.items ≡ edges_cut_by graph.now labels.now) }
 {
     let mut cut = Vec::new(alloc);
     for e in 0..graph.m() {
-        if is_cut(graph, labels, e) {
+        if is_cut_edge(graph, labels, e) {
             cut.push(e)?;
         }
     }
@@ -92,7 +92,7 @@ fn cut_edges(alloc: Global, graph: &Graph, labels: &[u32]) -> Result<Vec<u32>, A
 }
 
 // Whether the ends of edge e have different labels.
-fn is_cut(graph: &Graph, labels: &[u32], e: u32) -> bool
+fn is_cut_edge(graph: &Graph, labels: &[u32], e: u32) -> bool
     requires within { e < length graph.now.edges }
     requires labels { length labels.now ≡ graph.now.n }
     ensures ends { HasTwoEnds graph.now e }

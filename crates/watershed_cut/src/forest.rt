@@ -2,8 +2,8 @@ ghost use Rattle.std.specs.Prelude.{◌≡◌, ℕ, ◌<◌, ◌≤◌, List, ma
 ghost use Rattle.std.specs.List.{range_with_len};
 ghost use Rattle.hg_base.specs.Tree.{graph_tree};
 ghost use Rattle.hg_base.specs.Zones.{maker};
-ghost use Rattle.partition_tree.specs.Forest.{nodes};
-ghost use Rattle.watershed_cut.specs.TreePasses.{AreNearest, makes_forest, AreChosen, held_end, AreLeafLabels, AreNodeLabels};
+ghost use Rattle.partition_tree.specs.TreeLists.{nodes};
+ghost use Rattle.watershed_cut.specs.NearestHolders.{AreNearestHolders, makes_forest, AreChosen, held_end, AreLeafLabels, AreNodeLabels};
 
 use crate::minima::Minima;
 use hg_base::Graph;
@@ -60,7 +60,7 @@ pub(crate) fn vertex_labels(
 ) -> Result<Vec<u32>, AllocError>
     requires tree { tree.now ≡ graph_tree graph.now }
     requires vertices { length minima.now.vertices ≡ tree.now.leaves }
-    requires near { AreNearest tree.now minima.now.vertices near.now }
+    requires near { AreNearestHolders tree.now minima.now.vertices near.now }
     ensures { IfOk result (λ labels. (nodes : List ℕ) × (AreNodeLabels graph.now tree.now minima.now.vertices near.now nodes × (labels.items ≡ map (λ x. get_or nodes (get_or near.now x 0) 0) (range_with_len 0 tree.now.leaves)))) }
 {
     let nodes = node_labels(alloc, graph, tree, minima, near)?;
@@ -91,7 +91,7 @@ fn node_labels(
 ) -> Result<Vec<u32>, AllocError>
     requires tree { tree.now ≡ graph_tree graph.now }
     requires vertices { length minima.now.vertices ≡ tree.now.leaves }
-    requires near { AreNearest tree.now minima.now.vertices near.now }
+    requires near { AreNearestHolders tree.now minima.now.vertices near.now }
     ensures { IfOk result (λ labels. AreNodeLabels graph.now tree.now minima.now.vertices near.now labels.items) }
 {
     let mut labels = leaf_labels(alloc, tree, minima)?;
@@ -114,7 +114,7 @@ fn leaf_labels(alloc: Global, tree: &Tree, minima: &Minima) -> Result<Vec<u32>, 
 // Labels the inner nodes, from the leaves up.
 fn label_inner(graph: &Graph, tree: &Tree, minima: &Minima, near: &[u32], labels: &mut [u32])
     requires tree { tree.now ≡ graph_tree graph.now }
-    requires near { AreNearest tree.now minima.now.vertices near.now }
+    requires near { AreNearestHolders tree.now minima.now.vertices near.now }
     requires leaves { AreLeafLabels tree.now minima.now.vertices tree.now.leaves labels.old }
     ensures { AreNodeLabels graph.now tree.now minima.now.vertices near.now labels.new }
 {

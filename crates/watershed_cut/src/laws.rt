@@ -8,7 +8,7 @@ ghost use Rattle.watershed_cut.specs.Minima.{IsMinimumEdge, InMinimum, SameMinim
 ghost use Rattle.watershed_cut.specs.MinimumTests.{is_minimum, in_minimum, same_minimum, is_head, minimum_edges, minimum_count, vertex_label, edge_label};
 ghost use Rattle.watershed_cut.specs.Forest.{Reaches, reaches, IsForestEdge, is_forest, trees, IsForestList, forest};
 ghost use Rattle.watershed_cut.specs.Rooted.{IsRooted, cost};
-ghost use Rattle.watershed_cut.specs.Watershed.{tree_label, is_cut};
+ghost use Rattle.watershed_cut.specs.Watershed.{tree_label, is_cut_edge};
 
 /// The tests of minima say exactly what is said by walks. The label 0 is that of the vertices in no minimum and of the
 /// edges that are no minimum edges, and two vertices in minima have one label exactly where they are in one minimum.
@@ -54,5 +54,5 @@ pub fn labels_of_trees()
     ensures same { (n : ℕ) (s : EdgeList) → AreApart s → AreWithin n s → (x y : ℕ) → x < n → y < n →
         ((tree_label n s x ≡ tree_label n s y) ↔ Joined (trees n s) x y) }
     ensures cut { (g : WeightedGraph) → IsGraph g → (e : ℕ) → e < length g.edges →
-        (IsTrue (is_cut g e) ↔ (¬ Joined (trees g.n (ranked g)) (first_end g e) (second_end g e))) }
+        (IsTrue (is_cut_edge g e) ↔ (¬ Joined (trees g.n (ranked g)) (first_end g e) (second_end g e))) }
 {}

@@ -2,7 +2,7 @@ ghost use Rattle.std.specs.Prelude.{◌≡◌, ℕ, ◌<◌, IfOk, length, slice
 ghost use Rattle.hg_base.specs.Tree.{graph_tree};
 ghost use Rattle.edge_order.specs.Order.{order_of};
 ghost use Rattle.watershed_cut.specs.MinimumLabels.{minima_of};
-ghost use Rattle.watershed_cut.specs.Passes.{HasTwoEnds, level_label, level_labels};
+ghost use Rattle.watershed_cut.specs.Plateaus.{HasTwoEnds, level_label, level_labels};
 
 use crate::plateaus::plateau_keys;
 use edge_order::Order;

@@ -1,6 +1,6 @@
 ghost use Rattle.std.specs.Prelude.{◌≡◌, ◌<◌, ◌≤◌, length, get_or, false, IfOk};
-ghost use Rattle.partition_tree.specs.Forest.{IsForest};
-ghost use Rattle.watershed_cut.specs.TreePasses.{AreLeafHolders, AreHolders, AreNearest};
+ghost use Rattle.partition_tree.specs.TreeLists.{IsWellFormed};
+ghost use Rattle.watershed_cut.specs.NearestHolders.{AreLeafHolders, AreHolders, AreNearestHolders};
 
 use crate::minima::Minima;
 use partition_tree::{Tree, own_numbers, send_down};
@@ -13,8 +13,8 @@ pub(crate) fn nearest_holders(
     minima: &Minima,
 ) -> Result<Vec<u32>, AllocError>
     requires { length minima.now.vertices ≡ tree.now.leaves }
-    ensures forest { IfOk result (λ near. IsForest tree.now) }
-    ensures near { IfOk result (λ near. AreNearest tree.now minima.now.vertices near.items) }
+    ensures well_formed { IfOk result (λ near. IsWellFormed tree.now) }
+    ensures near { IfOk result (λ near. AreNearestHolders tree.now minima.now.vertices near.items) }
 {
     let holds = holders(alloc, tree, minima)?;
     let mut near = own_numbers(alloc, tree.nodes())?;
@@ -24,9 +24,7 @@ pub(crate) fn nearest_holders(
         |i: u32|
             requires { i < length marks.now }
             ensures { result ≡ get_or marks.entry.now i false }
-        {
-            marks[i as usize]
-        },
+        { marks[i as usize] },
         &mut near,
     );
     Ok(near)

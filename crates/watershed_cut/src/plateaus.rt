@@ -1,7 +1,7 @@
 ghost use Rattle.std.specs.Prelude.{◌≡◌, ◌<◌, IfOk};
 ghost use Rattle.hg_base.specs.Levels.{AltitudesRise};
-ghost use Rattle.partition_tree.specs.Forest.{nodes, IsForest};
-ghost use Rattle.watershed_cut.specs.Passes.{ends_plateau, ArePlateaus, AreOverLower, IsPlateauKey, ArePlateauKeys};
+ghost use Rattle.partition_tree.specs.TreeLists.{nodes, IsWellFormed};
+ghost use Rattle.watershed_cut.specs.Plateaus.{ends_plateau, ArePlateaus, AreOverLower, IsPlateauKey, ArePlateauKeys};
 
 use partition_tree::{Tree, own_numbers, send_down};
 use std::alloc::{AllocError, Global};
@@ -10,7 +10,7 @@ use std::alloc::{AllocError, Global};
 /// its altitude. Two leaves with one key are in one minimum, and a leaf without a key is in none.
 pub(crate) fn plateau_keys(alloc: Global, tree: &Tree) -> Result<Vec<Option<u32>>, AllocError>
     requires { AltitudesRise tree.now }
-    ensures forest { IfOk result (λ keys. IsForest tree.now) }
+    ensures well_formed { IfOk result (λ keys. IsWellFormed tree.now) }
     ensures keys { IfOk result (λ keys. ArePlateauKeys tree.now tree.now.leaves keys.items) }
 {
     let tops = plateaus(alloc, tree)?;
@@ -21,7 +21,7 @@ pub(crate) fn plateau_keys(alloc: Global, tree: &Tree) -> Result<Vec<Option<u32>
 // For each node the last node on its path that has its altitude.
 fn plateaus(alloc: Global, tree: &Tree) -> Result<Vec<u32>, AllocError>
     requires { AltitudesRise tree.now }
-    ensures forest { IfOk result (λ tops. IsForest tree.now) }
+    ensures well_formed { IfOk result (λ tops. IsWellFormed tree.now) }
     ensures tops { IfOk result (λ tops. ArePlateaus tree.now tops.items) }
 {
     let mut tops = own_numbers(alloc, tree.nodes())?;
@@ -30,9 +30,7 @@ fn plateaus(alloc: Global, tree: &Tree) -> Result<Vec<u32>, AllocError>
         |i: u32|
             requires { i < nodes tree.now }
             ensures { result ≡ ends_plateau tree.entry.now i }
-        {
-            tree.altitude(tree.parent(i)) != tree.altitude(i)
-        },
+        { tree.altitude(tree.parent(i)) != tree.altitude(i) },
         &mut tops,
     );
     Ok(tops)

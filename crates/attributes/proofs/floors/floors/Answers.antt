@@ -1,7 +1,7 @@
 use Rattle.std.proofs.Common.{◌∙◌, ap, arith, ◌<◌, length}
 use Rattle.std.specs.Prelude.{Option, None, unwrap_or, ℕ}
 use Rattle.std.proofs.lemmas.List.{get_or_default}
-use Rattle.attributes.proofs.Lights.{floors_more}
+use Rattle.attributes.proofs.LightestEdges.{floors_more}
 use Rattle.attributes.proofs.floors.floors.Goals as goal
 
 pub loop-x-preserved : goal.loop-x-preserved

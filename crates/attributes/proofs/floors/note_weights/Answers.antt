@@ -1,5 +1,5 @@
 use Rattle.std.proofs.Common.{arith}
-use Rattle.attributes.proofs.Lights.{lightest_more}
+use Rattle.attributes.proofs.LightestEdges.{lightest_more}
 use Rattle.attributes.proofs.floors.note_weights.Goals as goal
 
 pub loop-e-preserved : goal.loop-e-preserved

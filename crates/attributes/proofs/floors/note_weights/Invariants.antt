@@ -1,4 +1,4 @@
-use Rattle.attributes.proofs.Lights.{AreLightestTo}
+use Rattle.attributes.proofs.LightestEdges.{AreLightestTo}
 use Rattle.attributes.proofs.floors.note_weights.Given as goal
 
 -- the edges so far are read

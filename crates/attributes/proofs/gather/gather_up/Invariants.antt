@@ -1,4 +1,4 @@
-use Rattle.attributes.proofs.Ups.{AreGatheredTo}
+use Rattle.attributes.proofs.GatheredUp.{AreGatheredTo}
 use Rattle.attributes.proofs.gather.gather_up.Given as goal
 
 -- the nodes so far have handed their values on

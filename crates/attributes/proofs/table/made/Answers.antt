@@ -1,5 +1,5 @@
 use Rattle.attributes.proofs.Totals.{IsTreeOf, tree-of_graph}
-use Rattle.attributes.proofs.Made.{volumes-fit, volumes-low, dynamics-low, attributes-made}
+use Rattle.attributes.proofs.AttributesOfGraph.{volumes-fit, volumes-low, dynamics-low, attributes-made}
 use Rattle.attributes.proofs.table.made.Goals as goal
 
 pub volumes-requires-clause-fits : goal.volumes-requires-clause-fits

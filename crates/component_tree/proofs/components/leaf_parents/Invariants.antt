@@ -1,6 +1,6 @@
 use Rattle.std.proofs.Common.{◌≡◌, map}
 use Rattle.std.specs.List.{range_with_len}
-use Rattle.component_tree.specs.Passes.{leaf_parent}
+use Rattle.component_tree.specs.NodeComponents.{leaf_parent}
 use Rattle.component_tree.proofs.components.leaf_parents.Given as goal
 
 -- the leaves so far have their parents

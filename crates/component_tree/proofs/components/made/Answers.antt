@@ -4,10 +4,10 @@ use Rattle.hg_base.specs.Rank.{ranked}
 use Rattle.hg_base.specs.Tree.{ParentTree, altitude, tree_of}
 use Rattle.component_tree.specs.Components.{ComponentLists, IsComponentTree}
 use Rattle.component_tree.specs.MinTree.{turned, value_at, component_tree_of}
-use Rattle.component_tree.specs.Passes.{HasLeaves, AreFloodEdges, IsTurnedTree}
+use Rattle.component_tree.specs.NodeComponents.{HasLeaves, AreFloodEdges, IsTurnedTree}
 use Rattle.component_tree.proofs.Sided.{value-fits, turned-fits}
 use Rattle.component_tree.proofs.Flooded.{low-altitudes}
-use Rattle.component_tree.proofs.Result.{weighed-flood, flood-leaves, turned-components, turned-function}
+use Rattle.component_tree.proofs.ListsOfTree.{weighed-flood, flood-leaves, turned-components, turned-function}
 use Rattle.component_tree.proofs.components.made.Goals as goal
 
 pub tree_of_nodes-requires-clause-low : goal.tree_of_nodes-requires-clause-low

@@ -1,5 +1,5 @@
 use Rattle.std.proofs.Common.{◌≡◌, ◌++◌, map, take}
-use Rattle.component_tree.specs.Passes.{component_parent}
+use Rattle.component_tree.specs.NodeComponents.{component_parent}
 use Rattle.component_tree.proofs.components.push_parents.Given as goal
 
 -- the components so far have their parents

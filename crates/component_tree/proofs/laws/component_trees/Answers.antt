@@ -1,6 +1,6 @@
 use Rattle.hg_base.proofs.Ranked.{AreWithin-ranked}
 use Rattle.component_tree.proofs.Sided.{value-fits, one-tree}
-use Rattle.component_tree.proofs.Existence.{is-one}
+use Rattle.component_tree.proofs.TreeExists.{is-one}
 use Rattle.component_tree.proofs.laws.component_trees.Goals as goal
 
 pub returns : goal.returns

@@ -1,7 +1,7 @@
 use Rattle.std.proofs.Common.{◌≡◌, map}
 use Rattle.std.specs.Prelude.{filter}
 use Rattle.std.specs.List.{range_with_len}
-use Rattle.component_tree.specs.Passes.{is_component, component_of}
+use Rattle.component_tree.specs.NodeComponents.{is_component, component_of}
 use Rattle.component_tree.proofs.nodes.by_node.Given as goal
 
 -- the components of the nodes so far are there

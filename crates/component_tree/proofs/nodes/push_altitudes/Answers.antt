@@ -1,6 +1,6 @@
 use Rattle.std.proofs.Common.{arith}
 use Rattle.hg_base.specs.Tree.{altitude}
-use Rattle.component_tree.proofs.PassSteps.{values_behind}
+use Rattle.component_tree.proofs.ListSteps.{values_behind}
 use Rattle.component_tree.proofs.nodes.push_altitudes.Goals as goal
 
 pub loop-i-preserved : goal.loop-i-preserved

@@ -1,4 +1,4 @@
-use Rattle.component_tree.proofs.PassSteps.{element_next}
+use Rattle.component_tree.proofs.ListSteps.{element_next}
 use Rattle.component_tree.proofs.weights.areas.Goals as goal
 
 pub loop-v-preserved : goal.loop-v-preserved

@@ -2,7 +2,7 @@ use Rattle.std.proofs.Common.{◌≡◌, ℕ, ◌∙◌, ap}
 use Rattle.hg_base.specs.declared.graph.Edge.{Edge}
 use Rattle.component_tree.specs.MinTree.{value_at}
 use Rattle.component_tree.specs.Weighed.{weight_between, weighed_edge}
-use Rattle.component_tree.proofs.PassSteps.{mapped_next}
+use Rattle.component_tree.proofs.ListSteps.{mapped_next}
 use Rattle.component_tree.proofs.weights.edges.Goals as goal
 
 pub loop-e-preserved : goal.loop-e-preserved

@@ -1,6 +1,6 @@
 use Rattle.std.proofs.Common.{◌≡◌, ◌∙◌, ℕ, Bool, List, arith, ap, subst, length}
 use Rattle.std.specs.Prelude.{IfOk}
-use Rattle.energy_cut.proofs.Made.{marked-keys}
+use Rattle.energy_cut.proofs.CutOfLists.{marked-keys}
 use Rattle.energy_cut.proofs.choosing.chosen.Goals as goal
 
 pub returns : goal.returns

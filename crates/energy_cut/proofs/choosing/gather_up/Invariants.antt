@@ -1,4 +1,4 @@
-use Rattle.energy_cut.proofs.Gathering.{AreGathered}
+use Rattle.energy_cut.proofs.LeastBelow.{AreGathered}
 use Rattle.energy_cut.proofs.choosing.gather_up.Given as goal
 
 -- the nodes so far have their least energies, and have handed them up

@@ -1,5 +1,5 @@
 use Rattle.std.proofs.Common.{◌≡◌, ℕ, ◌<◌, length, get_or, take, false}
-use Rattle.energy_cut.specs.Passes.{is_key}
+use Rattle.energy_cut.specs.LeastEnergies.{is_key}
 use Rattle.energy_cut.proofs.choosing.mark.Given as goal
 
 -- the keys so far are marked

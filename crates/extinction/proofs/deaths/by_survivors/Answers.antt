@@ -2,7 +2,7 @@ use Rattle.std.proofs.Common.{◌∙◌, arith}
 use Rattle.extinction.proofs.PairLemmas.{written-back}
 use Rattle.extinction.specs.Values.{values_of}
 use Rattle.extinction.proofs.OneGraph.{extinctions-graph}
-use Rattle.extinction.proofs.SurvivorPasses.{deaths-all}
+use Rattle.extinction.proofs.NodeSurvivorLemmas.{deaths-all}
 use Rattle.extinction.proofs.deaths.by_survivors.Goals as goal
 
 pub returns : goal.returns

@@ -1,5 +1,5 @@
 use Rattle.extinction.specs.Values.{values_of}
-use Rattle.extinction.specs.Passes.{AreDeathsFrom}
+use Rattle.extinction.specs.NodeSurvivors.{AreDeathsFrom}
 use Rattle.extinction.proofs.deaths.note_deaths.Given as goal
 
 -- the deaths at the nodes from i on are noted

@@ -1,8 +1,8 @@
 use Rattle.std.proofs.Common.{◌≡◌, ◌<◌, ◌+◌, ◌-◌, ℕ, refl, sym, ◌∙◌, subst, inl, inr, arith, length}
 use Rattle.extinction.specs.Values.{values_of}
-use Rattle.extinction.specs.Passes.{AreRootsFrom}
+use Rattle.extinction.specs.NodeSurvivors.{AreRootsFrom}
 use Rattle.extinction.proofs.OneGraph.{one-areas}
-use Rattle.extinction.proofs.SurvivorPasses.{survivors-length, survivor-is_label, read-own, roots-same, roots-more}
+use Rattle.extinction.proofs.NodeSurvivorLemmas.{survivors-length, survivor-is_label, read-own, roots-same, roots-more}
 use Rattle.extinction.proofs.deaths.note_roots.Goals as goal
 use Rattle.extinction.proofs.deaths.note_roots.Goals.{else-label-ne0-via-then-label-ne0+else-parent-i, else-label-ne0-via-else-label-ne0}
 
@@ -24,7 +24,7 @@ bounds-values-label c =
     let long = survivors-length t c.args.minima.now values c.args.survivors.now.pairs.items labels c.requires.survivors in
     let hi : c.loop-i.i - 1 < length t.parents = omega (arith, c.loop-i-test.true, c.loop-i.auto.i, c.nodes-i.ensures.value) in
     let own = read-own labels (c.loop-i.i - 1) c.index-label.result.now (omega (arith, hi, long)) c.index-label.ensures in
-    let is = survivor-is_label t c.args.minima.now values c.args.survivors.now.pairs.items labels c.nodes-i.ensures.forest c.requires.survivors (c.loop-i.i - 1) c.index-label.result.now hi own c.if-label-ne0.true in
+    let is = survivor-is_label t c.args.minima.now values c.args.survivors.now.pairs.items labels c.nodes-i.ensures.well_formed c.requires.survivors (c.loop-i.i - 1) c.index-label.result.now hi own c.if-label-ne0.true in
     omega (arith, is.positive, is.most, c.loop-i.invariant.one_each)
 
 pub loop-i-preserved-then-parent-i : goal.loop-i-preserved-then-parent-i
@@ -37,7 +37,7 @@ loop-i-preserved-then-parent-i c =
     let long = survivors-length t m values c.args.survivors.now.pairs.items labels c.requires.survivors in
     let hi : c.loop-i.i - 1 < length t.parents = omega (arith, c.loop-i-test.true, c.loop-i.auto.i, c.nodes-i.ensures.value) in
     let own = read-own labels (c.loop-i.i - 1) c.index-label.result.now (omega (arith, hi, long)) c.index-label.ensures in
-    let is = survivor-is_label t m values c.args.survivors.now.pairs.items labels c.nodes-i.ensures.forest c.requires.survivors (c.loop-i.i - 1) c.index-label.result.now hi own c.if-label-ne0.true in
+    let is = survivor-is_label t m values c.args.survivors.now.pairs.items labels c.nodes-i.ensures.well_formed c.requires.survivors (c.loop-i.i - 1) c.index-label.result.now hi own c.if-label-ne0.true in
     let next' : c.loop-i.i ≡ c.loop-i.i - 1 + 1 = omega arith in
     roots-more t m values labels c.loop-i.values _ (c.loop-i.i - 1) c.index-label.result.now c.value.result hi (sym c.parent.ensures.value ∙ c.if-parent-i.true) own is c.value.ensures refl
     (subst (λ (k : ℕ). AreRootsFrom t m values labels k c.loop-i.values) next' c.loop-i.invariant)

@@ -1,5 +1,5 @@
 use Rattle.extinction.specs.Values.{values_of}
-use Rattle.extinction.specs.Passes.{AreRootsFrom}
+use Rattle.extinction.specs.NodeSurvivors.{AreRootsFrom}
 use Rattle.extinction.proofs.deaths.note_roots.Given as goal
 
 -- the roots from node i on are noted

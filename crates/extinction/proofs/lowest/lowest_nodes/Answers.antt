@@ -1,5 +1,5 @@
 use Rattle.std.proofs.Common.{◌≡◌, ◌+◌, sym, ◌∙◌, ap, subst, arith, length}
-use Rattle.extinction.specs.Passes.{AreLowest}
+use Rattle.extinction.specs.NodeSurvivors.{AreLowest}
 use Rattle.extinction.proofs.OwnLemmas.{AreLowestTo, by-minima, lowest-same, lowest-more, lowest-all}
 use Rattle.extinction.proofs.lowest.lowest_nodes.Goals as goal
 use Rattle.extinction.proofs.lowest.lowest_nodes.Goals.{then-label-ne0, else-label-ne0}

@@ -1,9 +1,9 @@
 use Rattle.std.proofs.Common.{◌-◌, ◌<◌, ◌≤◌, ℕ, sym, ◌∙◌, ap, subst, arith, length, get_or, nat_lt}
 use Rattle.std.proofs.lemmas.Bool.{cond-true, cond-false, lt-ltb, le-ltb}
 use Rattle.std.proofs.lemmas.Option.{get_or_from_slice_get}
-use Rattle.watershed_cut.proofs.ForestPasses.{maker-below, maker-is}
+use Rattle.watershed_cut.proofs.ChosenEdges.{maker-below, maker-is}
 use Rattle.watershed_cut.proofs.WatershedLemmas.{minima-lengths}
-use Rattle.extinction.specs.Passes.{node_label}
+use Rattle.extinction.specs.NodeSurvivors.{node_label}
 use Rattle.extinction.proofs.OwnLemmas.{by-minima}
 use Rattle.extinction.proofs.NodeLabels.{node_label-most}
 use Rattle.extinction.proofs.lowest.node_label.Goals as goal

@@ -1,5 +1,5 @@
 use Rattle.std.proofs.Common.{◌≡◌, arith}
-use Rattle.extinction.specs.Passes.{AreLowest, AreOwnLabels}
+use Rattle.extinction.specs.NodeSurvivors.{AreLowest, AreOwnLabels}
 use Rattle.extinction.proofs.OwnLemmas.{AreOwnTo, by-minima, own-all}
 use Rattle.extinction.proofs.lowest.own_labels.Goals as goal
 

@@ -2,7 +2,7 @@ use Rattle.std.proofs.Common.{◌≡◌, ◌∙◌, ◌<◌, length, sym, arith}
 use Rattle.std.specs.Prelude.{vec_len}
 use Rattle.std.proofs.lemmas.List.FromFn.{fill_by_all}
 use Rattle.node_region.specs.Pool.{count}
-use Rattle.partition_tree.specs.Numbering.{inner_parent}
+use Rattle.partition_tree.specs.CellNodes.{inner_parent}
 use Rattle.partition_tree.proofs.parents.fill_inner.Goals as goal
 
 pub returns : goal.returns

@@ -1,7 +1,7 @@
 use Rattle.std.specs.Prelude.{Some}
 use Rattle.std.proofs.Common.{◌≡◌, sym, ◌∙◌, ap, arith}
 use Rattle.node_region.specs.Pool.{leaf_of}
-use Rattle.partition_tree.specs.Numbering.{node_above}
+use Rattle.partition_tree.specs.CellNodes.{node_above}
 use Rattle.partition_tree.proofs.CellLemmas.{used-within}
 use Rattle.partition_tree.proofs.parents.leaf_parent.Goals as goal
 

@@ -1,4 +1,4 @@
-use Rattle.partition_tree.specs.Numbering.{leaf_parent}
+use Rattle.partition_tree.specs.CellNodes.{leaf_parent}
 use Rattle.partition_tree.proofs.CellLemmas.{values-more}
 use Rattle.partition_tree.proofs.parents.leaf_parents.Goals as goal
 

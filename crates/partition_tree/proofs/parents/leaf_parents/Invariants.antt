@@ -1,6 +1,6 @@
 use Rattle.std.proofs.Common.{◌≡◌, map}
 use Rattle.std.specs.List.{range_with_len}
-use Rattle.partition_tree.specs.Numbering.{leaf_parent}
+use Rattle.partition_tree.specs.CellNodes.{leaf_parent}
 use Rattle.partition_tree.proofs.parents.leaf_parents.Given as goal
 
 -- a parent for each leaf so far

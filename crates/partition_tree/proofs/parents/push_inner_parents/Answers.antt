@@ -1,5 +1,5 @@
 use Rattle.node_region.specs.Pool.{count}
-use Rattle.partition_tree.specs.Numbering.{inner_parent}
+use Rattle.partition_tree.specs.CellNodes.{inner_parent}
 use Rattle.partition_tree.proofs.CellLemmas.{parents-more}
 use Rattle.partition_tree.proofs.parents.push_inner_parents.Goals as goal
 

@@ -1,7 +1,7 @@
 use Rattle.std.proofs.Common.{◌≡◌, ◌++◌, map}
 use Rattle.std.specs.List.{range_with_len}
 use Rattle.node_region.specs.Pool.{count}
-use Rattle.partition_tree.specs.Numbering.{inner_parent}
+use Rattle.partition_tree.specs.CellNodes.{inner_parent}
 use Rattle.partition_tree.proofs.parents.push_inner_parents.Given as goal
 
 -- the parents of the inner nodes so far

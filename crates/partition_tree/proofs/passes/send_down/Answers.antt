@@ -1,6 +1,6 @@
 use Rattle.std.proofs.Common.{◌≡◌, ◌+◌, ◌-◌, ◌<◌, ℕ, sym, ◌∙◌, subst, arith}
-use Rattle.partition_tree.specs.Forest.{nodes}
-use Rattle.partition_tree.proofs.ForestClimbs.{forest-climbs}
+use Rattle.partition_tree.specs.TreeLists.{nodes}
+use Rattle.partition_tree.proofs.WellFormed.{well_formed-climbs}
 use Rattle.partition_tree.proofs.NearestStops.{AreOfStopsFrom, sent-first, sent-stop, sent-parent, sent-all}
 use Rattle.partition_tree.proofs.passes.send_down.Goals as goal
 
@@ -22,7 +22,7 @@ loop-i-preserved-then-not-stops g c test agrees =
     let i = c.loop-i.i - 1 in
     let e : c.loop-i.i ≡ c.loop-i.i - 1 + 1 = omega arith in
     let low : c.loop-i.i - 1 < nodes t = omega (arith, c.loop-i.auto.i, c.nodes-i.ensures.value) in
-    sent-parent t (forest-climbs t c.nodes-i.ensures.forest) test i c.parent.result c.args.values.now c.loop-i.values low c.parent.ensures.value
+    sent-parent t (well_formed-climbs t c.nodes-i.ensures.well_formed) test i c.parent.result c.args.values.now c.loop-i.values low c.parent.ensures.value
     (subst (λ (n : ℕ). AreOfStopsFrom t test n c.args.values.now c.loop-i.values) e (c.loop-i.invariant test agrees))
     (sym (agrees i _ low c.stops.ensures) ∙ c.if-not-stops.true)
 

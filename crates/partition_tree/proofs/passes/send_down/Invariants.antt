@@ -1,5 +1,5 @@
 use Rattle.std.proofs.Common.{ℕ, Bool}
-use Rattle.partition_tree.specs.Forest.{nodes}
+use Rattle.partition_tree.specs.TreeLists.{nodes}
 use Rattle.partition_tree.specs.NearestStops.{AnswersTest}
 use Rattle.partition_tree.proofs.NearestStops.{AreOfStopsFrom}
 use Rattle.partition_tree.proofs.passes.send_down.Given as goal

@@ -3,7 +3,7 @@ use Rattle.hg_base.specs.declared.graph.Room.{Room}
 use Rattle.border_climb.specs.Stands.{Stands}
 use Rattle.border_climb.specs.Parts.{CanJoin}
 use Rattle.tile_plan.specs.Plan.{edges_at, left, lot_edges, right, root}
-use Rattle.partition_tree.proofs.PlannedLots.{IsOver, halves-join, halves-stand}
+use Rattle.partition_tree.proofs.PlanLots.{IsOver, halves-join, halves-stand}
 use Rattle.partition_tree.proofs.tests.joined_part.Goals as goal
 
 pub join-requires-clause-lists : goal.join-requires-clause-lists

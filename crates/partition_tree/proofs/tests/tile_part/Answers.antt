@@ -1,7 +1,7 @@
 use Rattle.std.proofs.Common.{sym, subst}
 use Rattle.border_climb.specs.Parts.{IsLot}
 use Rattle.tile_plan.specs.Plan.{lot_edges}
-use Rattle.partition_tree.proofs.PlannedLots.{lot-fits, lot-stands}
+use Rattle.partition_tree.proofs.PlanLots.{lot-fits, lot-stands}
 use Rattle.partition_tree.proofs.tests.tile_part.Goals as goal
 
 pub build_tile-requires-clause-lot : goal.build_tile-requires-clause-lot

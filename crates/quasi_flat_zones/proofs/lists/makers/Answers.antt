@@ -3,7 +3,7 @@ use Rattle.std.specs.Prelude.{Option, unwrap_or, filter, nat_le}
 use Rattle.hg_base.specs.Zones.{keeps, maker}
 use Rattle.hg_base.proofs.Passing.{passing}
 use Rattle.hg_base.proofs.Zones.{makers-none}
-use Rattle.quasi_flat_zones.proofs.PassLemmas.{makers_more, makers_same}
+use Rattle.quasi_flat_zones.proofs.ZoneNumberLemmas.{makers_more, makers_same}
 use Rattle.quasi_flat_zones.proofs.lists.makers.Goals as goal
 use Rattle.quasi_flat_zones.proofs.lists.makers.Goals.{then-keeps+in_ok-push, else-keeps}
 

@@ -2,7 +2,7 @@ use Rattle.std.proofs.Common.{◌≡◌, ℕ, ◌<◌, get_or}
 use Rattle.std.specs.Prelude.{◌==◌, not, filter}
 use Rattle.std.specs.List.{range_with_len}
 use Rattle.hg_base.specs.Graph.{first_end, second_end}
-use Rattle.watershed_cut.specs.Passes.{HasTwoEnds}
+use Rattle.watershed_cut.specs.Plateaus.{HasTwoEnds}
 use Rattle.watershed_cut.proofs.find.cut_edges.Given as goal
 
 -- the cut edges so far

@@ -1,5 +1,5 @@
 use Rattle.std.proofs.Common.{false, ◌∙◌, ap, get_or}
-use Rattle.watershed_cut.proofs.FilterPasses.{filter_more, filter_same}
+use Rattle.watershed_cut.proofs.MarkedNumbers.{filter_more, filter_same}
 use Rattle.watershed_cut.proofs.find.numbers_of.Goals as goal
 use Rattle.watershed_cut.proofs.find.numbers_of.Goals.{then-marks-e+in_ok-push, else-marks-e}
 

@@ -1,4 +1,4 @@
-use Rattle.watershed_cut.proofs.ForestPasses.{AreChosenTo}
+use Rattle.watershed_cut.proofs.ChosenEdges.{AreChosenTo}
 use Rattle.watershed_cut.proofs.forest.chosen_edges.Given as goal
 
 -- the edges chosen so far

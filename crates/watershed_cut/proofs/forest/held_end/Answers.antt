@@ -1,4 +1,4 @@
-use Rattle.watershed_cut.proofs.ForestPasses.{maker-below}
+use Rattle.watershed_cut.proofs.ChosenEdges.{maker-below}
 use Rattle.watershed_cut.proofs.forest.held_end.Goals as goal
 
 pub edge-edge-requires : goal.edge-edge-requires

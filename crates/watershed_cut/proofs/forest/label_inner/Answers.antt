@@ -1,5 +1,5 @@
 use Rattle.std.proofs.Common.{arith}
-use Rattle.watershed_cut.proofs.ForestPasses.{node_labels-more}
+use Rattle.watershed_cut.proofs.ChosenEdges.{node_labels-more}
 use Rattle.watershed_cut.proofs.forest.label_inner.Goals as goal
 
 pub loop-i-preserved : goal.loop-i-preserved

@@ -1,4 +1,4 @@
-use Rattle.watershed_cut.proofs.ForestPasses.{AreNodeLabelsTo}
+use Rattle.watershed_cut.proofs.ChosenEdges.{AreNodeLabelsTo}
 use Rattle.watershed_cut.proofs.forest.label_inner.Given as goal
 
 -- the nodes so far have their labels

@@ -1,4 +1,4 @@
-use Rattle.watershed_cut.specs.TreePasses.{AreLeafLabels}
+use Rattle.watershed_cut.specs.NearestHolders.{AreLeafLabels}
 use Rattle.watershed_cut.proofs.forest.leaf_labels.Given as goal
 
 -- the leaves so far have their labels

@@ -1,5 +1,5 @@
 use Rattle.std.proofs.Common.{◌≡◌, ◌<◌, ℕ, sym, subst, arith, length}
-use Rattle.watershed_cut.proofs.ForestPasses.{maker-below, maker-is}
+use Rattle.watershed_cut.proofs.ChosenEdges.{maker-below, maker-is}
 use Rattle.watershed_cut.proofs.forest.makes_forest.Goals as goal
 
 pub edge-edge-requires : goal.edge-edge-requires

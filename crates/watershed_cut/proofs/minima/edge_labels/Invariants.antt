@@ -1,6 +1,6 @@
 use Rattle.std.proofs.Common.{◌≡◌, ℕ, ◌<◌, map}
 use Rattle.std.specs.List.{range_with_len}
-use Rattle.watershed_cut.specs.Passes.{HasTwoEnds, level_label}
+use Rattle.watershed_cut.specs.Plateaus.{HasTwoEnds, level_label}
 use Rattle.watershed_cut.proofs.minima.edge_labels.Given as goal
 
 -- the edges so far have their labels, and two ends

@@ -1,4 +1,4 @@
-use Rattle.watershed_cut.specs.TreePasses.{AreLeafHolders}
+use Rattle.watershed_cut.specs.NearestHolders.{AreLeafHolders}
 use Rattle.watershed_cut.proofs.nearest.leaf_holders.Given as goal
 
 -- the leaves so far are marked

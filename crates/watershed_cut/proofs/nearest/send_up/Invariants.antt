@@ -1,4 +1,4 @@
-use Rattle.watershed_cut.proofs.NearestPasses.{AreSentUp}
+use Rattle.watershed_cut.proofs.HolderStops.{AreSentUp}
 use Rattle.watershed_cut.proofs.nearest.send_up.Given as goal
 
 -- the marks of the nodes so far are sent up

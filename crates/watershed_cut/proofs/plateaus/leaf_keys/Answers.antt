@@ -1,4 +1,4 @@
-use Rattle.watershed_cut.proofs.KeyPasses.{keys_more}
+use Rattle.watershed_cut.proofs.LowerNodes.{keys_more}
 use Rattle.watershed_cut.proofs.plateaus.leaf_keys.Goals as goal
 
 pub loop-x-preserved : goal.loop-x-preserved

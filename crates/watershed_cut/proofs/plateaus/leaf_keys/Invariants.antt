@@ -1,4 +1,4 @@
-use Rattle.watershed_cut.specs.Passes.{ArePlateauKeys}
+use Rattle.watershed_cut.specs.Plateaus.{ArePlateauKeys}
 use Rattle.watershed_cut.proofs.plateaus.leaf_keys.Given as goal
 
 -- the leaves so far have their keys

@@ -1,8 +1,8 @@
 use Rattle.std.proofs.Common.{◌≡◌, ◌<◌, ◌≤◌, ℕ, subst, arith, length, get_or, ap}
 use Rattle.hg_base.specs.Tree.{parent, altitude}
-use Rattle.partition_tree.proofs.ForestClimbs.{forest-climbs}
-use Rattle.watershed_cut.specs.Passes.{IsPlateau}
-use Rattle.watershed_cut.proofs.KeyPasses.{over_same, over_more}
+use Rattle.partition_tree.proofs.WellFormed.{well_formed-climbs}
+use Rattle.watershed_cut.specs.Plateaus.{IsPlateau}
+use Rattle.watershed_cut.proofs.LowerNodes.{over_same, over_more}
 use Rattle.watershed_cut.proofs.plateaus.over_lower.Goals as goal
 use Rattle.watershed_cut.proofs.plateaus.over_lower.Goals.{then-altitude, else-altitude}
 
@@ -12,7 +12,7 @@ loop-i-preserved c =
     let i = c.loop-i.i in
     let p = c.parent-parent.result in
     let is : p ≡ parent t i = c.parent-parent.ensures.value in
-    let climbs = forest-climbs t c.nodes.ensures.forest in
+    let climbs = well_formed-climbs t c.nodes.ensures.well_formed in
     let node : i < length t.parents = omega (arith, c.loop-i-test.true, c.nodes-i-end.ensures.value, c.loop-i.auto.i-end) in
     elim c.if-altitude.branch [
       | then-altitude w ↦

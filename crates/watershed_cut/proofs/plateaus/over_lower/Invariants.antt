@@ -1,4 +1,4 @@
-use Rattle.watershed_cut.proofs.KeyPasses.{AreOverLowerTo}
+use Rattle.watershed_cut.proofs.LowerNodes.{AreOverLowerTo}
 use Rattle.watershed_cut.proofs.plateaus.over_lower.Given as goal
 
 -- the plateaus over the lower inner nodes so far

@@ -2,7 +2,7 @@ use Rattle.std.proofs.Common.{◌*◌, ◌<◌, ◌^◌, ℕ, sym, subst, get_or
 use Rattle.std.specs.List.{range_with_len}
 use Rattle.attributes.specs.Attributes.{area, floor}
 use Rattle.attributes.proofs.Totals.{IsTreeOf, tree-of_graph}
-use Rattle.attributes.proofs.Made.{AreLeafValues, floors-light, leaf-values, leaf-length, areas-fit, products-fit, lowest-fit, node-values}
+use Rattle.attributes.proofs.AttributesOfGraph.{AreLeafValues, floors-light, leaf-values, leaf-length, areas-fit, products-fit, lowest-fit, node-values}
 use Rattle.attributes.proofs.sums.NodeSums.of.Goals as goal
 
 pub products-requires-clause-light : goal.products-requires-clause-light

@@ -1,5 +1,5 @@
 use Rattle.extinction.specs.Values.{values_of}
-use Rattle.extinction.specs.Passes.{AreSurvivorsTo}
+use Rattle.extinction.specs.NodeSurvivors.{AreSurvivorsTo}
 use Rattle.extinction.proofs.survive.Survivors.of.Given as goal
 
 -- the nodes so far have their survivors

@@ -2,7 +2,7 @@ use Rattle.std.proofs.Common.{◌≡◌, subst, arith}
 use Rattle.hg_base.specs.Tree.{IsAbove}
 use Rattle.partition_tree.specs.Paths.{IsCommon}
 use Rattle.partition_tree.proofs.PathLemmas.{above-on}
-use Rattle.partition_tree.proofs.ClimbLemmas.{goes-further, met-lowest}
+use Rattle.partition_tree.proofs.JumpLemmas.{goes-further, met-lowest}
 use Rattle.partition_tree.proofs.tree.Tree.met.Goals as goal
 
 pub returns-in_err-a-clause-lowest : goal.returns-in_err-a-clause-lowest
@@ -25,5 +25,5 @@ pub returns-clause-lowest : goal.returns-clause-lowest
 returns-clause-lowest c =
     let t = c.args.self.now in
     let same : c.loop-a.b ≡ c.loop-a.a = omega arith in
-    met-lowest t c.nodes.ensures.forest c.args.a c.args.b c.loop-a.a c.loop-a.invariant.first (subst (λ k. IsAbove t k c.args.b) same c.loop-a.invariant.second)
+    met-lowest t c.nodes.ensures.well_formed c.args.a c.args.b c.loop-a.a c.loop-a.invariant.first (subst (λ k. IsAbove t k c.args.b) same c.loop-a.invariant.second)
     (λ j p. subst (λ k. IsCommon t c.loop-a.a k j) same (c.loop-a.invariant.kept j p))

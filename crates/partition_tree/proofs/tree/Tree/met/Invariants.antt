@@ -1,6 +1,6 @@
 use Rattle.std.proofs.Common.{ℕ, ◌+◌, ◌-◌, ◌<◌}
 use Rattle.hg_base.specs.Tree.{IsAbove}
-use Rattle.partition_tree.specs.Forest.{nodes}
+use Rattle.partition_tree.specs.TreeLists.{nodes}
 use Rattle.partition_tree.specs.Paths.{IsCommon}
 use Rattle.partition_tree.proofs.tree.Tree.met.Given as goal
 

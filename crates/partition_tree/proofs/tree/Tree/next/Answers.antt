@@ -1,4 +1,4 @@
-use Rattle.partition_tree.proofs.ClimbLemmas.{swapped}
+use Rattle.partition_tree.proofs.JumpLemmas.{swapped}
 use Rattle.partition_tree.proofs.tree.Tree.next.Goals as goal
 
 pub returns-in_err-raised-2-clause-next : goal.returns-in_err-raised-2-clause-next

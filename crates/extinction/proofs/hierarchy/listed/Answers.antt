@@ -1,6 +1,0 @@
-use Rattle.std.proofs.Common.{ℕ, List, sym, subst}
-use Rattle.extinction.specs.Turns.{AreSorted}
-use Rattle.extinction.proofs.hierarchy.listed.Goals as goal
-
-pub edges_by_keys-requires-clause-keys : goal.edges_by_keys-requires-clause-keys
-edges_by_keys-requires-clause-keys c = subst (λ (xs : List (ℕ × ℕ)). AreSorted c.args.persistences.now xs) (sym c.deref.ensures.value) c.in_ok-keys.ensures

@@ -1,8 +1,0 @@
-use Rattle.std.proofs.Common.{◌≡◌}
-use Rattle.std.specs.List.{range_with_len}
-use Rattle.partition_tree.proofs.TurnLemmas.{ranks_of}
-use Rattle.partition_tree.proofs.turns.turns.Given as goal
-
--- a turn for each edge so far
-abbrev pub invariant-loop-rank : goal.invariant-loop-rank
-invariant-loop-rank l = ranks_of l.turns.items ≡ range_with_len 0 l.rank

@@ -10,10 +10,6 @@ use Rattle.partition_tree.specs.declared.list.Ranked.{Ranked}
 use Rattle.partition_tree.specs.Ranked.{IsRankedList, edges_of}
 use Rattle.extinction.specs.HierarchicalWatershed.{persistence_rank, persistence_edges}
 
--- each number and its place
-abbrev pub persistence_keys : List ℕ → List (ℕ × ℕ)
-persistence_keys xs = map (λ i. (slice_index xs i, i)) (range_with_len 0 (length xs))
-
 -- at each place stands the one before which so many come
 pub record IsPersistenceOrder (persistences order : List ℕ) : Type 0 where
   pub one_each : length order ≡ length persistences

@@ -15,7 +15,7 @@ use Rattle.hg_base.proofs.BelowRanks.{below-found, below-missing, below-whole}
 use Rattle.hg_base.proofs.Ends.{next-is}
 use Rattle.node_region.specs.Pool.{CellPool, IsCovered, leaf_of, count}
 use Rattle.border_climb.specs.Stands.{PartState, IsClimb, Stands}
-use Rattle.border_climb.specs.Linked.{HasRank, Points, AreCellNodes}
+use Rattle.border_climb.specs.Linked.{HasRank, Points, AreLinked}
 use Rattle.border_climb.proofs.Linked.{linked-Stands, own-chain}
 use Rattle.border_climb.specs.Parts.{above_cell}
 use Rattle.border_climb.specs.Splicing.{rank_of}
@@ -47,7 +47,7 @@ Stands-cells part s m st first few low = record {
   alone = st.alone;
 }
   where
-    l : AreCellNodes part.region s
+    l : AreLinked part.region s
     l = linked-Stands part s st
 
 -- a climb has a cell of each rank of its list

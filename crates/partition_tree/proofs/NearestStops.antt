@@ -106,16 +106,15 @@ stop-induction t c stops Q self up i j hi h = go (nodes t) i hi h (omega arith)
     go zero k hk n few = absurd (omega arith)
     go (suc d) k hk n few = elim (cases_eq (parent t k) k) [
       | inl root ↦ at_stop k hk (inr root) n
-      | inr other ↦ step d k hk n few other (stops k) refl
-    ]
-      where
-        step : (d k : ℕ) → k < nodes t → IsNearestStop t stops k j → nodes t ≤ k + suc d → (parent t k ≡ k → ⊥) → (b : Bool) → stops k ≡ b → Q k j
-        step d k hk n few other true on = at_stop k hk (inl on) n
-        step d k hk n few other false off =
+      | inr other ↦ elim (cases_Bool (stops k)) [
+        | inl on ↦ at_stop k hk (inl on) n
+        | inr off ↦
             let rises : k ≤ parent t k = c.rises k hk in
             let higher : k < parent t k = grind (arith, rises, other) in
             let rest = further k off other n in
             up k j hk off other rest (go d (parent t k) (c.within k hk) rest (omega arith))
+      ]
+    ]
 
 -- there are such values
 pub stops-exist : (t : ParentTree) → IsClimbing t → (stops : ℕ → Bool) (own : List ℕ) → length own ≡ nodes t → (values : List ℕ) × AreOfStops t stops own values

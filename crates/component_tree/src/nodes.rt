@@ -136,14 +136,7 @@ pub(crate) fn places(
     ensures { IfOk result (λ places. ArePlaces tree.now levels.now list.now places.items) }
 {
     let mut places = own_places(alloc, tree, list)?;
-    send_down(
-        tree,
-        |i: u32|
-            requires { (length levels.now ≡ nodes tree.now) × (i < nodes tree.now) }
-            ensures { result ≡ is_component tree.entry.now levels.entry.now i }
-        { is_component(tree, levels, i) },
-        &mut places,
-    );
+    send_places_down(tree, levels, list, &mut places);
     Ok(places)
 }
 
@@ -159,4 +152,22 @@ fn own_places(alloc: Global, tree: &Tree, list: &[Component]) -> Result<Vec<u32>
         place += 1;
     }
     Ok(places)
+}
+
+// Gives each node that is no component its parent's place, from the roots down.
+fn send_places_down(tree: &Tree, levels: &[u32], list: &[Component], places: &mut [u32])
+    requires levels { length levels.now ≡ nodes tree.now }
+    requires list { (leasts : List ℕ) × AreComponents tree.now levels.now leasts list.now }
+    requires own { AreOwnPlaces tree.now list.now places.old }
+    ensures { ArePlaces tree.now levels.now list.now places.new }
+{
+    let _ = list;
+    send_down(
+        tree,
+        |i: u32|
+            requires { (length levels.now ≡ nodes tree.now) × (i < nodes tree.now) }
+            ensures { result ≡ is_component tree.entry.now levels.entry.now i }
+        { is_component(tree, levels, i) },
+        places,
+    );
 }

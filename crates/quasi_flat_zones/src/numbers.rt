@@ -48,14 +48,7 @@ pub(crate) fn nearest_numbers(
     ensures nearest { IfOk result (λ numbers. AreNearestNumbers tree.now numbers.items) }
 {
     let mut numbers = zone_numbers(alloc, tree, marks)?;
-    send_down(
-        tree,
-        |i: u32|
-            requires { AreMarked tree.now marks.now × (i < nodes tree.now) }
-            ensures { result ≡ keeps tree.entry.now i }
-        { keeps(tree, marks, i) },
-        &mut numbers,
-    );
+    send_numbers_down(tree, marks, &mut numbers);
     Ok(numbers)
 }
 
@@ -75,4 +68,20 @@ fn zone_numbers(alloc: Global, tree: &Tree, marks: &[bool]) -> Result<Vec<u32>, 
         }
     }
     Ok(numbers)
+}
+
+// Gives each node that isn't kept its parent's number, from the roots down.
+fn send_numbers_down(tree: &Tree, marks: &[bool], numbers: &mut [u32])
+    requires marks { AreMarked tree.now marks.now }
+    requires own { numbers.old ≡ zone_numbers tree.now }
+    ensures { AreNearestNumbers tree.now numbers.new }
+{
+    send_down(
+        tree,
+        |i: u32|
+            requires { AreMarked tree.now marks.now × (i < nodes tree.now) }
+            ensures { result ≡ keeps tree.entry.now i }
+        { keeps(tree, marks, i) },
+        numbers,
+    );
 }

@@ -1,4 +1,5 @@
 ghost use Rattle.std.specs.Prelude.{◌≡◌, ℕ, ◌<◌, ◌≤◌, length, IfOk};
+ghost use Rattle.std.specs.List.{range_with_len};
 ghost use Rattle.hg_base.specs.Edges.{EdgeList, AreApart, AreWithin, joined};
 ghost use Rattle.hg_base.specs.Labels.{labelling};
 ghost use Rattle.hg_base.specs.Tree.{tree_of};
@@ -43,15 +44,24 @@ fn tops(alloc: Global, tree: &Tree, level: u64) -> Result<Vec<u32>, AllocError>
     ensures tops { IfOk result (λ tops. AreTops tree.now level tops.items) }
 {
     let mut tops = own_numbers(alloc, tree.nodes())?;
+    send_tops_down(tree, level, &mut tops);
+    Ok(tops)
+}
+
+// Gives each node whose parent is up to the level its parent's top, from the roots down.
+fn send_tops_down(tree: &Tree, level: u64, tops: &mut [u32])
+    requires rise { AltitudesRise tree.now }
+    requires own { tops.old ≡ range_with_len 0 (nodes tree.now) }
+    ensures { AreTops tree.now level tops.new }
+{
     send_down(
         tree,
         |i: u32|
             requires { i < nodes tree.now }
             ensures { result ≡ is_last_to tree.entry.now level i }
         { level < tree.altitude(tree.parent(i)) },
-        &mut tops,
+        tops,
     );
-    Ok(tops)
 }
 
 // The top of each leaf.

@@ -1,5 +1,7 @@
 ghost use Rattle.std.specs.Prelude.{◌≡◌, ◌↔◌, ◌<◌, length, IfOk, IsTrue, false};
+ghost use Rattle.std.specs.List.{range_with_len};
 ghost use Rattle.hg_base.specs.Graph.{first_end, second_end};
+ghost use Rattle.partition_tree.specs.TreeLists.{nodes};
 ghost use Rattle.partition_tree.specs.Paths.{ShareRoot};
 ghost use Rattle.saliency.specs.Roots.{AreRoots};
 ghost use Rattle.saliency.specs.Values.{EndsShareRoots};
@@ -30,14 +32,22 @@ fn roots(alloc: Global, tree: &Tree) -> Result<Vec<u32>, AllocError>
     ensures { IfOk result (λ roots. AreRoots tree.now roots.items) }
 {
     let mut roots = own_numbers(alloc, tree.nodes())?;
+    send_roots_down(tree, &mut roots);
+    Ok(roots)
+}
+
+// Gives each node its parent's root, from the roots down.
+fn send_roots_down(tree: &Tree, roots: &mut [u32])
+    requires { roots.old ≡ range_with_len 0 (nodes tree.now) }
+    ensures { AreRoots tree.now roots.new }
+{
     send_down(
         tree,
         |_: u32|
             ensures { result ≡ false }
         { false },
-        &mut roots,
+        roots,
     );
-    Ok(roots)
 }
 
 // Whether the ends of each edge have one of these roots.

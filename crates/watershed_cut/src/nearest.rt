@@ -1,5 +1,6 @@
 ghost use Rattle.std.specs.Prelude.{◌≡◌, ◌<◌, ◌≤◌, length, get_or, false, IfOk};
-ghost use Rattle.partition_tree.specs.TreeLists.{IsWellFormed};
+ghost use Rattle.std.specs.List.{range_with_len};
+ghost use Rattle.partition_tree.specs.TreeLists.{nodes, IsWellFormed};
 ghost use Rattle.watershed_cut.specs.NearestHolders.{AreLeafHolders, AreHolders, AreNearestHolders};
 
 use crate::minima::Minima;
@@ -18,15 +19,7 @@ pub(crate) fn nearest_holders(
 {
     let holds = holders(alloc, tree, minima)?;
     let mut near = own_numbers(alloc, tree.nodes())?;
-    let marks: &[bool] = &holds;
-    send_down(
-        tree,
-        |i: u32|
-            requires { i < length marks.now }
-            ensures { result ≡ get_or marks.entry.now i false }
-        { marks[i as usize] },
-        &mut near,
-    );
+    send_nearest_down(tree, minima, &holds, &mut near);
     Ok(near)
 }
 
@@ -63,4 +56,21 @@ fn send_up(tree: &Tree, minima: &Minima, holds: &mut [bool])
             holds[tree.parent(i) as usize] = true;
         }
     }
+}
+
+// Gives each node that isn't marked its parent's nearest node, from the roots down.
+fn send_nearest_down(tree: &Tree, minima: &Minima, holds: &[bool], near: &mut [u32])
+    requires holds { AreHolders tree.now minima.now.vertices holds.now }
+    requires own { near.old ≡ range_with_len 0 (nodes tree.now) }
+    ensures { AreNearestHolders tree.now minima.now.vertices near.new }
+{
+    let _ = minima;
+    send_down(
+        tree,
+        |i: u32|
+            requires { i < length holds.now }
+            ensures { result ≡ get_or holds.entry.now i false }
+        { holds[i as usize] },
+        near,
+    );
 }

@@ -1,4 +1,5 @@
 ghost use Rattle.std.specs.Prelude.{◌≡◌, ◌<◌, IfOk};
+ghost use Rattle.std.specs.List.{range_with_len};
 ghost use Rattle.hg_base.specs.Levels.{AltitudesRise};
 ghost use Rattle.partition_tree.specs.TreeLists.{nodes, IsWellFormed};
 ghost use Rattle.watershed_cut.specs.Plateaus.{ends_plateau, ArePlateaus, AreOverLower, IsPlateauKey, ArePlateauKeys};
@@ -25,15 +26,24 @@ fn plateaus(alloc: Global, tree: &Tree) -> Result<Vec<u32>, AllocError>
     ensures tops { IfOk result (λ tops. ArePlateaus tree.now tops.items) }
 {
     let mut tops = own_numbers(alloc, tree.nodes())?;
+    send_plateaus_down(tree, &mut tops);
+    Ok(tops)
+}
+
+// Gives each node of its parent's altitude its parent's plateau, from the roots down.
+fn send_plateaus_down(tree: &Tree, tops: &mut [u32])
+    requires rise { AltitudesRise tree.now }
+    requires own { tops.old ≡ range_with_len 0 (nodes tree.now) }
+    ensures { ArePlateaus tree.now tops.new }
+{
     send_down(
         tree,
         |i: u32|
             requires { i < nodes tree.now }
             ensures { result ≡ ends_plateau tree.entry.now i }
         { tree.altitude(tree.parent(i)) != tree.altitude(i) },
-        &mut tops,
+        tops,
     );
-    Ok(tops)
 }
 
 // Which nodes are plateaus of the parent of a lower inner node.

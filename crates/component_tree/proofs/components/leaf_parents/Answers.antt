@@ -6,7 +6,7 @@ use Rattle.component_tree.proofs.components.leaf_parents.Goals as goal
 pub overflow_add-leaves-in-loop-x : goal.overflow_add-leaves-in-loop-x
 overflow_add-leaves-in-loop-x c =
     let hx : c.loop-x.x < length c.args.tree.now.parents = omega (arith, c.loop-x-test.true, c.leaves-leaves.ensures.within, c.leaves-leaves.ensures.value) in
-    let low : get_or c.args.places.now c.loop-x.x 0 < length c.args.list.now = (c.requires.1.1.1.each c.loop-x.x (omega arith) hx).within in
+    let low : get_or c.args.places.now c.loop-x.x 0 < length c.args.list.now = (c.requires.1.1.1.each c.loop-x.x hx).within in
     let few : length c.args.list.now ≤ 2097151 = c.requires.1.1.0.few in
     omega (arith, low, few, c.leaves-leaves.ensures.leaves)
 

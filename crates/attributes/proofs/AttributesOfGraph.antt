@@ -15,7 +15,7 @@ use Rattle.attributes.specs.Floors.{IsRead}
 use Rattle.attributes.specs.Sums.{AreSums}
 use Rattle.attributes.proofs.Gathers.{sum-part, least-low}
 use Rattle.attributes.proofs.LowFloors.{floor-small}
-use Rattle.attributes.proofs.ListsByNumber.{values-agree}
+use Rattle.partition_tree.proofs.ListsByNumber.{values-agree}
 use Rattle.attributes.proofs.Totals.{IsTreeOf, floors-in, sums-are, lowest-is, lowest-low, balance, sum-bound}
 
 -- the values of the leaves

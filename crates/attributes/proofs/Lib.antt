@@ -3,6 +3,5 @@ pub mod GatheredUp
 pub mod LeafValues
 pub mod LightestEdges
 pub mod LowFloors
-pub mod ListsByNumber
 pub mod Totals
 pub mod AttributesOfGraph

@@ -24,7 +24,7 @@ use Rattle.attributes.specs.Attributes.{area, floor, least, vertices, area_of, v
 use Rattle.attributes.specs.Floors.{IsRead}
 use Rattle.attributes.proofs.Gathers.{gathered-agree}
 use Rattle.attributes.proofs.LowFloors.{floors-low, altitudes-small, within-ranked, least-le, in-mapped}
-use Rattle.attributes.proofs.ListsByNumber.{in-range, range-in}
+use Rattle.partition_tree.proofs.ListTests.{range-to, range-from}
 
 -- what the tree of a graph keeps to
 pub record IsTreeOf (g : WeightedGraph) (t : ParentTree) : Type 0 where
@@ -50,13 +50,13 @@ tree-of_graph g t same read =
 pub vertex-in : (t : ParentTree) (i x : ℕ) → IsIn x (vertices t i) → (x < t.leaves) × IsAbove t i x
 vertex-in t i x m =
     let kept = IsIn-kept (is_above t i) x (range_with_len 0 t.leaves) m in
-    (let low : x < 0 + t.leaves = in-range 0 t.leaves x kept.1 in omega (arith, low), is_above-to t i x kept.0)
+    (let low : x < 0 + t.leaves = (range-to 0 t.leaves x kept.1).1 in omega (arith, low), is_above-to t i x kept.0)
 
 -- a node has a vertex
 vertex-some : (t : ParentTree) → IsWellFormed t → (i x : ℕ) → x < t.leaves → IsAbove t i x → IsIn x (vertices t i)
 vertex-some t f i x h a =
     let few = well_formed-leaves t f in
-    IsIn-filter (is_above t i) x (range_with_len 0 t.leaves) (is_above-from t (well_formed-climbs t f) i x (omega arith) a) (range-in 0 t.leaves x (omega arith) (omega arith))
+    IsIn-filter (is_above t i) x (range_with_len 0 t.leaves) (is_above-from t (well_formed-climbs t f) i x (omega arith) a) (range-from 0 t.leaves x (omega arith) (omega arith))
 
 -- the floors of a node's vertices are no higher than the altitude over it
 pub floors-in : (g : WeightedGraph) (t : ParentTree) → IsTreeOf g t → (i : ℕ) → i < nodes t → (x : ℕ) → IsIn x (vertices t i) → floor g x ≤ altitude_over t i

@@ -1,4 +1,4 @@
--- Steps of the passes: one more value, one more number that passes, one more edge.
+-- One more value behind others, and one more element.
 use Rattle.std.proofs.Common.{◌≡◌, ℕ, zero, suc, ◌+◌, ◌-◌, ◌≤◌, Bool, true, false, cond, refl, sym, ◌∙◌, ap, arith, List, [], ◌∷◌, ◌++◌, map, take, append_assoc, append-nil}
 use Rattle.std.specs.Prelude.{Some, slice_get, nat_lt, if◌then◌else◌}
 use Rattle.std.specs.List.{range_with_len}
@@ -6,18 +6,9 @@ use Rattle.std.proofs.lemmas.Bool.{lt-ltb, le-ltb}
 use Rattle.std.proofs.lemmas.List.{map-append}
 use Rattle.std.proofs.lemmas.List.FromFn.{map-range_with_len_more}
 use Rattle.hg_base.proofs.Leasts.{map-agree}
-use Rattle.hg_base.proofs.Passing.{passing, passing-suc}
 use Rattle.component_tree.proofs.Unique.{range-parts}
 
--- the value of the next number is there
-pub values_next : {X : Type 0} (f : ℕ → X) (n : ℕ) (v : X) (items new : List X) → items ≡ map f (range_with_len 0 n) → v ≡ f n → new ≡ items ++ v ∷ [] → new ≡ map f (range_with_len 0 (n + 1))
-values_next {X} f n v items new so_far value pushed =
-    pushed
-    ∙ ap (λ (xs : List X). xs ++ v ∷ []) so_far
-    ∙ ap (λ (x : X). map f (range_with_len 0 n) ++ x ∷ []) value
-    ∙ sym (map-range_with_len_more f 0 n n (omega arith))
-
--- so behind other values
+-- the value of the next number is there, behind other values
 pub values_behind : (f : ℕ → ℕ) (a i v : ℕ) (first items new : List ℕ) → a ≤ i → items ≡ first ++ map f (range_with_len a (i - a)) → v ≡ f i → new ≡ items ++ v ∷ [] → new ≡ first ++ map f (range_with_len a (i + 1 - a))
 values_behind f a i v first items new low so_far value pushed =
     let e : (i - a) + 1 ≡ i + 1 - a = omega arith in
@@ -25,25 +16,6 @@ values_behind f a i v first items new low so_far value pushed =
     ∙ ap (λ (xs : List ℕ). xs ++ v ∷ []) so_far
     ∙ append_assoc first (map f (range_with_len a (i - a))) (v ∷ [])
     ∙ ap (λ (l : List ℕ). first ++ l) (ap (λ (x : ℕ). map f (range_with_len a (i - a)) ++ x ∷ []) value ∙ sym (map-range_with_len_more f a (i - a) i (omega arith)) ∙ ap (λ (k : ℕ). map f (range_with_len a k)) e)
-
--- the next number passes, and its value is there
-pub values_more : {X : Type 0} (f : ℕ → X) (p : ℕ → Bool) (i : ℕ) (v : X) (items new : List X) → items ≡ map f (passing p i) → p i ≡ true → v ≡ f i → new ≡ items ++ v ∷ [] → new ≡ map f (passing p (i + 1))
-values_more {X} f p i v items new so_far passes value pushed =
-    let e : i + 1 ≡ suc i = omega arith in
-    let one : passing p (suc i) ≡ passing p i ++ i ∷ [] = passing-suc p i ∙ ap (λ (b : Bool). passing p i ++ cond b (i ∷ []) []) passes in
-    pushed
-    ∙ ap (λ (xs : List X). xs ++ v ∷ []) so_far
-    ∙ ap (λ (x : X). map f (passing p i) ++ x ∷ []) value
-    ∙ sym (map-append f (passing p i) (i ∷ []))
-    ∙ ap (map f) (sym one)
-    ∙ ap (λ (n : ℕ). map f (passing p n)) (sym e)
-
--- the next number doesn't pass
-pub values_same : {X : Type 0} (f : ℕ → X) (p : ℕ → Bool) (i : ℕ) (items : List X) → items ≡ map f (passing p i) → p i ≡ false → items ≡ map f (passing p (i + 1))
-values_same {X} f p i items so_far fails =
-    let e : i + 1 ≡ suc i = omega arith in
-    let one : passing p (suc i) ≡ passing p i ++ [] = passing-suc p i ∙ ap (λ (b : Bool). passing p i ++ cond b (i ∷ []) []) fails in
-    so_far ∙ ap (map f) (sym (append-nil (passing p i)) ∙ sym one) ∙ ap (λ (n : ℕ). map f (passing p n)) (sym e)
 
 -- the values of two functions, one after the other, are those of one
 pub split-values : (f g : ℕ → ℕ) (n m : ℕ) (first items : List ℕ) → n ≤ m → first ≡ map f (range_with_len 0 n) → items ≡ first ++ map g (range_with_len n (m - n)) →

@@ -10,11 +10,12 @@ use Rattle.std.proofs.lemmas.List.Sorted.{IsPermutation-refl, IsPermutation-sym,
 use Rattle.tree_laws.specs.Tree.{ParentTree, parent}
 use Rattle.partition_tree.specs.TreeLists.{IsWellFormed}
 use Rattle.partition_tree.proofs.WellFormed.{well_formed-climbs, well_formed-leaves}
+use Rattle.partition_tree.proofs.NearestStops.{stops-exist}
 use Rattle.component_tree.specs.declared.nodes.Component.{Component}
 use Rattle.component_tree.specs.NodeComponents.{is_component, component_at, component_of, HasLeaves, AreLeasts, AreComponents, ArePlaces}
 use Rattle.component_tree.proofs.Leasts.{AreLeastsTo, leasts-first, leasts-next, leasts-all}
 use Rattle.component_tree.proofs.Sorting.{component_lt, component-order, sorted-components}
-use Rattle.component_tree.proofs.Placing.{AreOwnTo, own-next, AreSentFrom, sent-first, sent-own, sent-down, sent-all}
+use Rattle.component_tree.proofs.Placing.{AreOwnTo, own-next, places-of_stops}
 
 -- a list put in order
 module _ {X : Type 0} (lt : X → X → Bool) (o : IsStrictWeakOrder lt) where
@@ -95,18 +96,8 @@ module _ (t : ParentTree) (forest : IsWellFormed t) where
         let next : List ℕ = set r.0 (component_at list k).node k in
         (next, subst (λ (m : ℕ). AreOwnTo t list m next) e (own-next t levels leasts list k r.0 c (omega arith) r.1))
 
-    sent-down-to : (i : ℕ) → i ≤ length t.parents → (places : List ℕ) → AreSentFrom t levels list i places → (sent : List ℕ) × AreSentFrom t levels list 0 sent
-    sent-down-to zero le places s = (places, s)
-    sent-down-to (suc i) le places s =
-        let e : suc i ≡ i + 1 = omega arith in
-        let from : AreSentFrom t levels list (i + 1) places = subst (λ (k : ℕ). AreSentFrom t levels list k places) e s in
-        elim (cases_Bool (is_component t levels i)) [
-          | inl is ↦ sent-down-to i (omega arith) places (sent-own t levels leasts list i places c (omega arith) is from)
-          | inr not_one ↦ sent-down-to i (omega arith) (set places i (get_or places (parent t i) 0)) (sent-down t levels list i places (well_formed-climbs t forest) (omega arith) not_one c.is from)
-        ]
-
     pub places-exist : (places : List ℕ) × ArePlaces t levels list places
     places-exist =
         let r = own-to (length list) (omega arith) in
-        let s = sent-down-to (length t.parents) (omega arith) r.0 (sent-first t levels list r.0 (record { one_each = r.1.one_each; own = r.1.own })) in
-        (s.0, sent-all t levels list s.0 s.1)
+        let s = stops-exist t (well_formed-climbs t forest) (is_component t levels) r.0 r.1.one_each in
+        (s.0, places-of_stops t levels leasts list r.0 s.0 (well_formed-climbs t forest) c (record { one_each = r.1.one_each; own = r.1.own }) s.1)

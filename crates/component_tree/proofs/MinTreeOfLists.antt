@@ -147,16 +147,16 @@ module _ (t : ParentTree) (f : ℕ → ℕ) (s : EdgeList) (levels leasts : List
   place j = get_or places j 0
 
   place_in : (j : ℕ) → j < length t.parents → place j < length list
-  place_in j h = (b.places_are.each j (omega arith) h).within
+  place_in j h = (b.places_are.each j h).within
 
   place_above : (j : ℕ) → j < length t.parents → IsAbove t (node_at (place j)) j
-  place_above j h = (b.places_are.each j (omega arith) h).above
+  place_above j h = (b.places_are.each j h).above
 
   place_level : (j : ℕ) → j < length t.parents → lvl (place j) ≡ level levels j
   place_level j h = lvl_is (place j) (place_in j h) ∙ at j h
     where
       at : (j : ℕ) → j < length t.parents → level levels (node_at (place j)) ≡ level levels j
-      at j h = (b.places_are.each j (omega arith) h).level
+      at j h = (b.places_are.each j h).level
 
   -- the place above a component
   abbrev over : ℕ → ℕ

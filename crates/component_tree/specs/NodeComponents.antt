@@ -63,14 +63,10 @@ pub record IsNearestPlace (t : ParentTree) (levels : List ℕ) (list : List Comp
   pub above : IsAbove t (component_at list k).node i
   pub level : get_or levels (component_at list k).node 0 ≡ get_or levels i 0
 
--- so for each node from `low` on
-pub record ArePlacesFrom (t : ParentTree) (levels : List ℕ) (list : List Component) (low : ℕ) (places : List ℕ) : Type 0 where
-  pub one_each : length places ≡ length t.parents
-  pub each : (i : ℕ) → low ≤ i → i < length t.parents → IsNearestPlace t levels list i (get_or places i 0)
-
 -- so for each node
-abbrev pub ArePlaces : ParentTree → List ℕ → List Component → List ℕ → Type 0
-ArePlaces t levels list places = ArePlacesFrom t levels list 0 places
+pub record ArePlaces (t : ParentTree) (levels : List ℕ) (list : List Component) (places : List ℕ) : Type 0 where
+  pub one_each : length places ≡ length t.parents
+  pub each : (i : ℕ) → i < length t.parents → IsNearestPlace t levels list i (get_or places i 0)
 
 -- each component's place is at its node
 pub record AreOwnPlaces (t : ParentTree) (list : List Component) (places : List ℕ) : Type 0 where

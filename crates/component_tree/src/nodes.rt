@@ -6,7 +6,7 @@ ghost use Rattle.component_tree.specs.NodeComponents.{levels_in, is_component, H
 
 use crate::side::{Side, turned};
 use crate::values::Values;
-use partition_tree::Tree;
+use partition_tree::{Tree, own_numbers, send_down};
 use std::alloc::{AllocError, Global};
 
 /// A component as a min tree sees it: its level, its least vertex, and the node of the weighed graph's tree below which
@@ -47,17 +47,6 @@ fn push_altitudes(tree: &Tree, levels: &mut Vec<u32>) -> Result<(), AllocError>
         levels.push(tree.altitude(i) as u32)?;
     }
     Ok(())
-}
-
-// Each number below n.
-fn own_numbers(alloc: Global, n: u32) -> Result<Vec<u32>, AllocError>
-    ensures { IfOk result (λ numbers. numbers.items ≡ range_with_len 0 n) }
-{
-    let mut numbers = Vec::with_capacity(alloc, n as usize)?;
-    for i in 0..n {
-        numbers.push(i)?;
-    }
-    Ok(numbers)
 }
 
 // For each node of the tree the least leaf below it.
@@ -147,7 +136,7 @@ pub(crate) fn places(
     ensures { IfOk result (λ places. ArePlaces tree.now levels.now list.now places.items) }
 {
     let mut places = own_places(alloc, tree, list)?;
-    send_down(tree, levels, list, &mut places);
+    send_places_down(tree, levels, list, &mut places);
     Ok(places)
 }
 
@@ -165,17 +154,20 @@ fn own_places(alloc: Global, tree: &Tree, list: &[Component]) -> Result<Vec<u32>
     Ok(places)
 }
 
-// Gives each node that is no component its parent's place, from the root down.
-fn send_down(tree: &Tree, levels: &[u32], list: &[Component], places: &mut [u32])
+// Gives each node that is no component its parent's place, from the roots down.
+fn send_places_down(tree: &Tree, levels: &[u32], list: &[Component], places: &mut [u32])
     requires levels { length levels.now ≡ nodes tree.now }
     requires list { (leasts : List ℕ) × AreComponents tree.now levels.now leasts list.now }
     requires own { AreOwnPlaces tree.now list.now places.old }
     ensures { ArePlaces tree.now levels.now list.now places.new }
 {
     let _ = list;
-    for i in (0..tree.nodes()).rev() {
-        if !is_component(tree, levels, i) {
-            places[i as usize] = places[tree.parent(i) as usize];
-        }
-    }
+    send_down(
+        tree,
+        |i: u32|
+            requires { (length levels.now ≡ nodes tree.now) × (i < nodes tree.now) }
+            ensures { result ≡ is_component tree.entry.now levels.entry.now i }
+        { is_component(tree, levels, i) },
+        places,
+    );
 }

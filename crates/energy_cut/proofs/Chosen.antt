@@ -12,7 +12,7 @@ use Rattle.partition_tree.specs.TreeLists.{IsWellFormed}
 use Rattle.partition_tree.proofs.WellFormed.{well_formed-climbs, well_formed-leaves}
 use Rattle.energy_cut.specs.Cuts.{IsLeastCut, least_cut_of}
 use Rattle.energy_cut.specs.Regions.{in_one_region}
-use Rattle.energy_cut.proofs.ListMembers.{any-from, any-to}
+use Rattle.partition_tree.proofs.ListTests.{any-from, any-to}
 use Rattle.energy_cut.proofs.HighestKeepers.{best_nodes, best-least}
 use Rattle.energy_cut.proofs.Listed.{least-found}
 use Rattle.energy_cut.proofs.LeastBelow.{least_exist}

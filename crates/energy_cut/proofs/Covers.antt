@@ -8,7 +8,7 @@ use Rattle.tree_laws.specs.Levels.{IsClimbing, is_above}
 use Rattle.tree_laws.proofs.Climbs.{ancestor-root, above-on, above-next, above-either, above-within, above-rises}
 use Rattle.edge_laws.proofs.Sets.{same_test}
 use Rattle.tree_laws.proofs.Tops.{is_above-from, is_above-to}
-use Rattle.energy_cut.proofs.ListMembers.{any-from, any-to, range-from}
+use Rattle.partition_tree.proofs.ListTests.{any-from, any-to, range-from}
 
 -- another node that passes is above j
 pub record IsCovered (t : ParentTree) (p : ℕ → Bool) (j : ℕ) : Type 0 where

@@ -15,7 +15,8 @@ use Rattle.partition_tree.proofs.WellFormed.{well_formed-climbs, well_formed-lea
 use Rattle.energy_cut.specs.Cuts.{IsCut, IsLeastCut, cut_energy, leaf_numbers}
 use Rattle.energy_cut.specs.LeastEnergies.{AreLeast, children_sum, keeps_own}
 use Rattle.energy_cut.proofs.Totals.{total, sum-passing, total-agree, total-flat, total-le, total-tight}
-use Rattle.energy_cut.proofs.ListMembers.{any-from, any-to, range-from, range-to, has, has-from, passing-from, passing-to, rising-passing, passing-rises}
+use Rattle.partition_tree.proofs.ListTests.{any-from, any-to, range-from, range-to}
+use Rattle.energy_cut.proofs.ListMembers.{has, has-from, passing-from, passing-to, rising-passing, passing-rises}
 use Rattle.energy_cut.proofs.Covers.{free, free-to, highest, highest-one}
 use Rattle.energy_cut.proofs.Balance.{is_root, waits, below_sum, lost, balance, waits-roots}
 

@@ -15,7 +15,8 @@ use Rattle.tree_laws.proofs.Tops.{is_above-from, is_above-to}
 use Rattle.partition_tree.specs.TreeLists.{IsWellFormed}
 use Rattle.partition_tree.proofs.WellFormed.{well_formed-climbs, well_formed-leaves}
 use Rattle.energy_cut.specs.Cuts.{IsCut, IsLeastCut, IsCoarser, cut_energy, sublists, leaf_numbers, is_cut, cuts, is_coarser, is_least_cut, least_cut_of}
-use Rattle.energy_cut.proofs.ListMembers.{any-from, any-to, all-from, all-to, find-at, range-from, range-to, has, has-from, has-to, RisesFrom, rises-from, rises-to, rises-least, filter-agree, rising-passing}
+use Rattle.partition_tree.proofs.ListTests.{any-from, any-to, all-from, all-to, range-from, range-to}
+use Rattle.energy_cut.proofs.ListMembers.{find-at, has, has-from, has-to, RisesFrom, rises-from, rises-to, rises-least, filter-agree, rising-passing}
 use Rattle.energy_cut.proofs.HighestKeepers.{cut-within, has_leaf-from, has_leaf-to}
 
 -- the lists that two lists hold

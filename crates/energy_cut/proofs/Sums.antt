@@ -46,10 +46,6 @@ energies-fit t areas penalty small low fits k d h =
     subst (λ (e : ℕ). e < 2 ^ 65) (sym (get_or-map-range_with_len (node_energy t areas penalty) 0 (nodes t) k k d in_tree (omega arith)))
     (energy-small t areas penalty k small (low k in_tree) fits)
 
--- one more value
-pub values_more : (f : ℕ → ℕ) (i v : ℕ) (xs new : List ℕ) → xs ≡ map f (range_with_len 0 i) → v ≡ f i → new ≡ xs ++ v ∷ [] → new ≡ map f (range_with_len 0 (i + 1))
-values_more f i v xs new so_far this pushed = let more = map-range_with_len_more f 0 i i (omega arith) in cc
-
 -- the energies of so many nodes
 pub few-fit : (energies : List ℕ) (c : List ℕ) → length c ≤ 2097151 → All (λ e. e < 2 ^ 65) energies → cut_energy energies c < 2 ^ 86
 few-fit energies c few small =

@@ -1,4 +1,4 @@
--- A small forest of which an inner node is above no leaf.
+-- A small tree of which an inner node is above no leaf.
 use Rattle.std.proofs.Common.{◌≡◌, ℕ, zero, suc, ◌<◌, refl, arith, [], ◌∷◌}
 use Rattle.tree_laws.specs.Tree.{parent, altitude}
 use Rattle.partition_tree.specs.TreeLists.{IsWellFormed, lists_of}

@@ -18,7 +18,8 @@ use Rattle.partition_tree.specs.TreeLists.{IsWellFormed}
 use Rattle.partition_tree.proofs.WellFormed.{well_formed-climbs, well_formed-leaves}
 use Rattle.energy_cut.specs.LeastEnergies.{IsHighest, AreHighestKeepers, keeps_own, is_key}
 use Rattle.energy_cut.specs.Regions.{in_one_region}
-use Rattle.energy_cut.proofs.ListMembers.{any-from, any-to, passing-from, passing-to, filter-agree}
+use Rattle.partition_tree.proofs.ListTests.{any-from, any-to}
+use Rattle.energy_cut.proofs.ListMembers.{passing-from, passing-to, filter-agree}
 use Rattle.energy_cut.proofs.Covers.{free-from}
 use Rattle.energy_cut.proofs.HighestKeepers.{has_leaf-from, has_leaf-to, leaf-keeps, is_best, best_nodes, best-cut}
 

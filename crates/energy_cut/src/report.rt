@@ -1,17 +1,14 @@
 ghost use Rattle.std.specs.Prelude.{◌≡◌, ◌<◌, [], ◌∷◌, ◌++◌, All, codes, decimal, length, IfOk, OnOk};
 ghost use Rattle.std.specs.List.{flat_map};
 ghost use Rattle.hg_base.specs.Text.{line, headed_line};
-ghost use Rattle.energy_cut.specs.Report.{energy_line, vertex_line, energy_report};
+ghost use Rattle.energy_cut.specs.Report.{energy_line, energy_report};
 
 use crate::cuts::EnergyCut;
-use hg_base::{Labels, OutOfMemory};
+use hg_base::OutOfMemory;
 use itoa::Buffer;
-use report_lines::{LineWriter, Lines, Pieces};
+use report_lines::{HeadedLabels, LineWriter, Pieces};
 use std::alloc::{AllocError, Global};
 use std::thread::Threads;
-
-// The room for a vertex's line: a letter and two numbers of at most 7 digits.
-const VERTEX_LINE: usize = 18;
 
 /// The report of a cut and of the energies of which it was made: `energy N REGIONS SUM`, then for each node of the cut
 /// `node NODE ENERGY`, then for each vertex `v VERTEX LABEL`.
@@ -32,7 +29,8 @@ fn written(alloc: Global, cut: &EnergyCut, energies: &[u128]) -> Result<Vec<u8>,
 {
     let mut text = nodes_text(alloc, cut, energies)?;
     let mut vertices = LineWriter::new(alloc);
-    vertices.push_lines(&VertexLines {
+    vertices.push_lines(&HeadedLabels {
+        word: "v",
         labels: cut.labels(),
     })?;
     text.extend_from_slice(&vertices.into_text())?;
@@ -65,7 +63,8 @@ fn in_pieces(
     pieces.push_lines(
         rt,
         alloc,
-        &VertexLines {
+        &HeadedLabels {
+            word: "v",
             labels: cut.labels(),
         },
     )?;
@@ -87,34 +86,6 @@ fn nodes_text(alloc: Global, cut: &EnergyCut, energies: &[u128]) -> Result<Vec<u
     push_wide_line(&mut text, "energy", &sizes)?;
     push_nodes(&mut text, cut.nodes(), energies)?;
     Ok(text)
-}
-
-// A line for each vertex: its number and its label.
-#[derive(Clone, Copy)]
-struct VertexLines<'a> {
-    labels: &'a Labels,
-}
-
-impl Lines for VertexLines<'_> {
-    ghost count = { λ lines. length lines.labels.now.labels };
-
-    ghost line = { λ lines i. vertex_line lines.labels.now.labels i };
-
-    fn len(&self) -> usize {
-        self.labels.len() as usize
-    }
-
-    fn room(&self) -> usize {
-        VERTEX_LINE
-    }
-
-    #[tactic(auto, using(std::proofs::lemmas::Option::get_or_from_slice_get))]
-    fn write(&self, text: &mut LineWriter, i: usize) -> Result<(), AllocError> {
-        let vertices = self.labels.len() as usize;
-        prove!(i < vertices);
-        let label = self.labels.label(i as u32);
-        text.push_headed_line("v", &[i as u64, u64::from(label)])
-    }
 }
 
 // Appends a line for each node with its energy.

@@ -1,4 +1,4 @@
--- Which minima a node of a forest holds: the tests, and from child to parent.
+-- Which minima a node of a tree holds: the tests, and from child to parent.
 use Rattle.std.proofs.Common.{◌≡◌, ℕ, zero, suc, ◌+◌, ◌<◌, ◌≤◌, Bool, true, false, inl, inr, refl, sym, ◌∙◌, subst, ap, arith, List, [], ◌∷◌, length, get_or}
 use Rattle.std.specs.Prelude.{◌==◌, ◌||◌, not, nat_lt, Option, Some, None, find, unwrap_or}
 use Rattle.std.specs.List.{range_with_len, list_all}
@@ -15,19 +15,9 @@ use Rattle.partition_tree.specs.Children.{is_child, child_count, IsChildAt}
 use Rattle.partition_tree.proofs.ChildLemmas.{count-nth, child-parent, child-other}
 use Rattle.partition_tree.proofs.WellFormed.{well_formed-climbs, well_formed-leaves}
 use Rattle.watershed_cut.specs.MinimumLabels.{LabelledMinima}
-use Rattle.watershed_cut.proofs.AnyIn.{any-from, any-to, range-to, range-from}
+use Rattle.partition_tree.proofs.ListTests.{any-from, any-to, all-from, all-to, range-to, range-from}
 use Rattle.extinction.specs.Holding.{HoldsMinimum, holds_minimum, holds, least_held, child, child_holds}
 use Rattle.extinction.proofs.SideLemmas.{child-found}
-
--- each element of a list that passes a test
-pub all-from : {X : Type 0} (p : X → Bool) (xs : List X) → ((x : X) → IsIn x xs → p x ≡ true) → list_all p xs ≡ true
-all-from {X} p [] h = refl
-all-from {X} p (y ∷ ys) h = and_from (p y) (list_all p ys) (h y (inl refl)) (all-from p ys (λ x i. h x (inr i)))
-
-pub all-to : {X : Type 0} (p : X → Bool) (xs : List X) (x : X) → list_all p xs ≡ true → IsIn x xs → p x ≡ true
-all-to {X} p [] x h i = absurd i
-all-to {X} p (y ∷ ys) x h (inl same) = subst (λ (z : X). p z ≡ true) same (and_parts (p y) (list_all p ys) h).0
-all-to {X} p (y ∷ ys) x h (inr later) = all-to p ys x (and_parts (p y) (list_all p ys) h).1 later
 
 -- the test of holding
 pub holds_minimum-from : (t : ParentTree) (m : LabelledMinima) → IsClimbing t → t.leaves ≤ length t.parents → (i label : ℕ) → HoldsMinimum t m i label → holds_minimum t m i label ≡ true

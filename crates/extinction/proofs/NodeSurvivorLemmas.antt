@@ -15,7 +15,7 @@ use Rattle.extinction.specs.Holding.{holds, least_held, child, child_holds, both
 use Rattle.extinction.specs.Persistence.{persistence, persistences}
 use Rattle.extinction.specs.Survivors.{dies, dying, survivor_after, survivors, survivor, dies_at, lives_at, extinction_by, extinctions}
 use Rattle.extinction.specs.NodeSurvivors.{pair_of, AreChildPairs, AreOwnLabels, AreSurvivorsTo, AreSurvivors, both_live, label_after, value_after, dying_after, root_value, death_value, AreRootsFrom, AreDeathsFrom}
-use Rattle.attributes.proofs.ListsByNumber.{values_more}
+use Rattle.partition_tree.proofs.ListsByNumber.{values_more}
 use Rattle.extinction.proofs.SideLemmas.{leaf-childless}
 use Rattle.extinction.proofs.SurvivorLemmas.{outcome, table-length, survivor-outcome, survivor-own, survivor-zero, survivor-label}
 

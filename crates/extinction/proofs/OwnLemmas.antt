@@ -22,7 +22,7 @@ use Rattle.extinction.proofs.HoldLemmas.{holds_minimum-from, holds_minimum-to, f
 use Rattle.extinction.proofs.LowestHolders.{IsBottom, bottom-label, bottom-one, bottom-same, over-bottom}
 use Rattle.extinction.proofs.NodeLabels.{vertex-read, bottom-labelled, last-bottom}
 use Rattle.extinction.proofs.LevelZero.{bottom-holds}
-use Rattle.watershed_cut.proofs.AnyIn.{range-to}
+use Rattle.partition_tree.proofs.ListTests.{range-to}
 use Rattle.hg_base.proofs.Leasts.{first_of}
 use Rattle.std.specs.List.{range_with_len}
 

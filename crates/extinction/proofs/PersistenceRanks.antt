@@ -23,7 +23,7 @@ weighed-weight [] i = refl
 weighed-weight (x ∷ xs) zero = refl
 weighed-weight (x ∷ xs) (suc i) = weighed-weight xs i
 
--- a turn is a rank
+-- it is a rank
 pub persistence_rank-rank : (xs : List ℕ) (i : ℕ) → persistence_rank xs i ≡ rank (weighed xs) i
 persistence_rank-rank xs i =
     ap (λ (n : ℕ). count_by (comes_sooner xs i) (range_with_len 0 n)) (sym (weighed-length xs))
@@ -32,7 +32,7 @@ persistence_rank-rank xs i =
     sooner : (j : ℕ) → comes_sooner xs i j ≡ comes_before (weighed xs) i j
     sooner j = rw (weighed-weight xs i, weighed-weight xs j) refl
 
--- turns are below the length, and different
+-- such ranks are below the length, and different
 pub persistence_rank-below : (xs : List ℕ) (i : ℕ) → i < length xs → persistence_rank xs i < length xs
 persistence_rank-below xs i h = let r = rank-below (weighed xs) i (omega (arith, weighed-length xs)) in omega (arith, r, persistence_rank-rank xs i, weighed-length xs)
 
@@ -40,7 +40,7 @@ pub persistence_rank-one : (xs : List ℕ) (i j : ℕ) → i < length xs → j <
 persistence_rank-one xs i j hi hj same =
     rank-injective (weighed xs) i j (omega (arith, weighed-length xs)) (omega (arith, weighed-length xs)) (sym (persistence_rank-rank xs i) ∙ same ∙ persistence_rank-rank xs j)
 
--- the number whose turn it is
+-- the number that has this rank
 pub persistence_rank-number : (xs : List ℕ) (k : ℕ) → k < length xs → persistence_rank xs (number_at (weighed xs) k) ≡ k
 persistence_rank-number xs k h = persistence_rank-rank xs (number_at (weighed xs) k) ∙ rank-number_at (weighed xs) k (omega (arith, weighed-length xs))
 
@@ -50,7 +50,7 @@ number-persistence_rank xs i h = ap (number_at (weighed xs)) (persistence_rank-r
 pub number-below : (xs : List ℕ) (k : ℕ) → k < length xs → number_at (weighed xs) k < length xs
 number-below xs k h = let r = number_at-below (weighed xs) k (omega (arith, weighed-length xs)) in omega (arith, r, weighed-length xs)
 
--- a lower turn has no greater number
+-- a lower rank has no greater number
 pub persistence_rank-rises : (xs : List ℕ) (i j : ℕ) → i < length xs → j < length xs → persistence_rank xs i ≤ persistence_rank xs j → get_or xs i 0 ≤ get_or xs j 0
 persistence_rank-rises xs i j hi hj le =
     let a = number-persistence_rank xs i hi in

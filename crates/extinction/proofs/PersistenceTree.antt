@@ -63,7 +63,7 @@ tree-same n s r hs hr same = λ i. record {
     inner : inners s ≡ inners r
     inner = ap (λ (f : ListedEdge → ℕ). map f (joins s)) (λ j e. one e j) ∙ ap (λ (t : EdgeList). map (λ e. node_or n r (n + place r e) (next r e.u (suc e.rank))) t) edges
 
--- sorted keys are in the order of turns
+-- sorted keys are in the order of persistence
 pub sorted-order : (xs : List ℕ) (keys sorted : List (ℕ × ℕ)) → keys ≡ map (key (weighed xs)) (range_with_len 0 (length xs)) → IsPermutation keys sorted → sorted ≡ sorted_keys_of (weighed xs) → AreSorted xs sorted
 sorted-order xs keys sorted made same is = record {
   one_each = long;
@@ -89,7 +89,7 @@ sorted-order xs keys sorted made same is = record {
     second : map (λ (k : ℕ × ℕ). k.1) sorted ≡ map (number_at (weighed xs)) (range_with_len 0 (length xs))
     second = ap (map (λ (k : ℕ × ℕ). k.1)) is ∙ seconds 0 (length (weighed xs).edges) ∙ ap (λ (n : ℕ). map (number_at (weighed xs)) (range_with_len 0 n)) (weighed-length xs)
 
--- the edge at a place of the list is the joining edge whose turn it is
+-- the edge at a place of the list is the joining edge of that rank
 pub listed-edge : (g : WeightedGraph) (p order : List ℕ) (list : List Ranked) → IsPersistenceOrder p order → list ≡ map (ranked_of g p) order → (k : ℕ) (e : ListedEdge) → k < length order → IsIn e (joins (ranked g)) → get_or order k 0 ≡ place (ranked g) e →
     edge_at list k ≡ by_persistence (ranked g) p e
 listed-edge g p order list a made k e hk i at =

@@ -17,7 +17,7 @@ use Rattle.attributes.specs.Attributes.{floor, area, area_of, volume_under, dyna
 use Rattle.attributes.proofs.LowFloors.{least-le, in-mapped, floors-low}
 use Rattle.watershed_cut.specs.MinimumTests.{vertex_label}
 use Rattle.watershed_cut.specs.Plateaus.{IsPlateau}
-use Rattle.watershed_cut.proofs.AnyIn.{range-from}
+use Rattle.partition_tree.proofs.ListTests.{range-from}
 use Rattle.watershed_cut.proofs.PlateauLaws.{leaf-node, root-alone}
 use Rattle.extinction.specs.Values.{graph_values}
 use Rattle.extinction.specs.declared.kind.Kind.{Kind}

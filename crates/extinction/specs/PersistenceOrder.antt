@@ -10,10 +10,6 @@ use Rattle.partition_tree.specs.declared.list.Ranked.{Ranked}
 use Rattle.partition_tree.specs.Ranked.{IsRankedList, edges_of}
 use Rattle.extinction.specs.HierarchicalWatershed.{persistence_rank, persistence_edges}
 
--- each number and its place
-abbrev pub keys_of : List ℕ → List (ℕ × ℕ)
-keys_of xs = map (λ i. (slice_index xs i, i)) (range_with_len 0 (length xs))
-
 -- at each place stands the one before which so many come
 pub record IsPersistenceOrder (persistences order : List ℕ) : Type 0 where
   pub one_each : length order ≡ length persistences

@@ -40,7 +40,7 @@ pub fn survivors_live_on()
         ((survivor t m values i ≡ 0) ↔ (holds t m i ≡ false)) }
 {}
 
-/// The hierarchical watershed is a forest whose altitudes don't fall from child to parent.
+/// The hierarchical watershed is a well-formed tree whose altitudes don't fall from child to parent.
 pub fn hierarchical_is_well_formed()
     ensures well_formed { (g : WeightedGraph) (kind : Kind) → IsGraph g → IsWellFormed (hierarchical_of g kind) }
     ensures rises { (g : WeightedGraph) (kind : Kind) → IsGraph g → AltitudesRise (hierarchical_of g kind) }

@@ -1,8 +1,8 @@
 //! Persistences of a tree's nodes, extinctions of minima, and the hierarchical watershed of a graph.
 #![tactic(auto)]
 
-mod deaths;
 mod by_persistence;
+mod deaths;
 mod kind;
 mod laws;
 mod lowest;
@@ -11,8 +11,8 @@ mod persist;
 mod report;
 mod survive;
 
-pub use deaths::extinctions;
 pub use by_persistence::hierarchical;
+pub use deaths::extinctions;
 pub use kind::Kind;
 pub use laws::{
     children_are_two, hierarchical_is_well_formed, holding_by_paths, level_zero_is_the_watershed,

@@ -98,7 +98,7 @@ fn tree_of<G: Gate>(
 {
     let (part, receipt) = merged(rt, alloc, plan, workers, gate)?;
     let tree = Tree::of_part_in_threads(rt, alloc, order, plan, &part)?;
-    // That the tree is a forest, and that the graph keeps to its limits.
+    // That the tree is well formed, and that the graph keeps to its limits.
     let _ = tree.nodes();
     let _ = graph.n();
     Ok((tree, receipt))

@@ -1,5 +1,6 @@
 ghost use Rattle.std.specs.Prelude.{◌≡◌, [], ◌∷◌, length, IfOk};
-ghost use Rattle.label_writer.specs.Report.{label_line, labels_report};
+ghost use Rattle.report_lines.specs.Lines.{value_line};
+ghost use Rattle.label_writer.specs.Report.{labels_report};
 
 use hg_base::{Labels, OutOfMemory};
 use report_lines::{LineWriter, Lines, Pieces, pieces_of, text_of};
@@ -44,7 +45,7 @@ struct LabelLines<'a> {
 impl Lines for LabelLines<'_> {
     ghost count = { λ lines. length lines.labels.now.labels };
 
-    ghost line = { λ lines i. label_line lines.labels.now.labels i };
+    ghost line = { λ lines i. value_line lines.labels.now.labels i };
 
     fn len(&self) -> usize {
         self.labels.len() as usize

@@ -13,3 +13,6 @@ pub mod ListTree
 pub mod PlanTree
 pub mod PlanLots
 pub mod TestLemmas
+pub mod NearestStops
+pub mod ListTests
+pub mod ListsByNumber

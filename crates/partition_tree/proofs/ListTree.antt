@@ -52,7 +52,7 @@ drawn-list part list n parents altitudes makers g is m =
     k : makers ≡ (tree_of (count part.region) (edges_of list)).makers
     k = m.makers_are ∙ inner-values part (edges_of list) (count part.region) m.made m.numbers w (λ r. (edge_at list r).number) (λ e. e.number) (λ e i. ap (λ (x : ListedEdge). x.number) (edges-own list e i))
 
--- a forest
+-- a well-formed tree
 pub made-forest : (part : PartState) (list : List Ranked) → IsGiven part list → (t : ParentTree) → t ≡ tree_of (count part.region) (edges_of list) → IsWellFormed t
 made-forest part list g t is =
     subst IsWellFormed (sym is) (tree-well_formed (count part.region) (edges_of list) g.list_of.some_vertex g.list_of.vertices (edges-apart list) (edges-within (count part.region) list g.list_of))

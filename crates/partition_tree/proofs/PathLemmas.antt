@@ -144,7 +144,7 @@ stop-low t x (suc i) le =
     let before : stop t x i ≡ x = stop-low t x i (omega arith) in
     stop-past t x i (λ e. let same : i ≡ x = sym e ∙ before in omega arith) ∙ before
 
--- a forest's links rise, also from what is no node
+-- the links of a well-formed tree rise, also from what is no node
 pub well_formed-rises : (t : ParentTree) → IsWellFormed t → Rises t
 well_formed-rises t f i =
     elim (cases_order i (nodes t)) [
@@ -155,7 +155,7 @@ well_formed-rises t f i =
     beyond : (u : ParentTree) (k : ℕ) → nodes u ≤ k → k ≤ parent u k
     beyond u k h = let none' : parent u k ≡ k = ap (λ o. unwrap_or o k) (slice_get_past u.parents k h) in omega arith
 
--- what is above a node of a forest is a node
+-- what is above a node of a well-formed tree is a node
 pub well_formed-above : (t : ParentTree) → IsWellFormed t → (x z : ℕ) → x < nodes t → IsAbove t z x → z < nodes t
 well_formed-above t f x z lt a = subst (λ (k : ℕ). k < nodes t) a.1 (climb a.0)
   where

@@ -144,7 +144,7 @@ drawn-tree order plan part n ranks parents altitudes makers w is all d =
     ∙ drawn-placed order plan part parents altitudes makers w (subst (λ (k : ℕ). AreListsOfPart part (vertices plan) k (place_of plan) (weight_at order) (number_at_rank order) parents altitudes makers) all d)
     ∙ placed-tree (vertices plan) (place_of plan) (edges_at plan (root plan)) plan.edges (planned-placing order plan part w)
 
--- a forest
+-- a well-formed tree
 pub drawn-forest : (order : EdgeOrder) (plan : TilePlan) (part : PartState) → IsPlanned order plan part → (t : ParentTree) → t ≡ tree_of (vertices plan) plan.edges → IsWellFormed t
 drawn-forest order plan part w t is =
     subst IsWellFormed (sym is) (tree-well_formed (vertices plan) plan.edges (positive plan.frame.width plan.frame.height w.is_plan.frame.width w.is_plan.frame.height) w.is_plan.frame.vertices (AreApart-rising plan.edges w.is_plan.rising) (within-edges plan w.is_plan))

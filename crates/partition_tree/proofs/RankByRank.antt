@@ -20,7 +20,7 @@ use Rattle.partition_tree.specs.Ranked.{edge_at, edges_of}
 use Rattle.partition_tree.specs.BlockKeys.{AreBlockKeys}
 use Rattle.partition_tree.proofs.ListLemmas.{edges-apart, edges-placed, placed-edges, length-edges, placed-read}
 
--- the ranks of turns
+-- the ranks of keys
 abbrev pub ranks_of : List BlockKey → List ℕ
 ranks_of block_keys = map (λ (t : BlockKey). t.rank) block_keys
 
@@ -40,7 +40,7 @@ range-more a (suc n) j e =
     let z : suc n + 1 ≡ suc (n + 1) = omega arith in
     ap (range_with_len a) z ∙ ap (λ (l : List ℕ). a ∷ l) (range-more (a + 1) n j (omega (arith, e)))
 
--- one turn more
+-- one key more
 pub block_keys-more : (block_keys more : List BlockKey) (t : BlockKey) (k : ℕ) → ranks_of block_keys ≡ range_with_len 0 k → more ≡ block_keys ++ t ∷ [] → t.rank ≡ k → ranks_of more ≡ range_with_len 0 (k + 1)
 block_keys-more block_keys more t k is push rank =
     ap ranks_of push
@@ -114,7 +114,7 @@ placed-given list order (suc k) j lt =
       | inr other ↦ elim other [ inl low ↦ inr (placed-given list order k j low) | inr high ↦ absurd (omega arith) ]
     ]
 
--- as many edges as turns
+-- as many edges as keys
 length-given : (list : List Ranked) (order : List ℕ) (k : ℕ) → length (given_by list order k) ≡ k
 length-given list order zero = refl
 length-given list order (suc k) = ap suc (length-given list order k)
@@ -140,27 +140,27 @@ pub given-whole : (part : PartState) (list : List Ranked) (order : List ℕ) →
 given-whole part list order o st =
     stands-same part (given_by list order (length list)) (edges_of list) (given-same list order o) (edges-apart list) (length-given list order (length list) ∙ sym (length-edges list)) st
 
--- the rank of a turn
+-- the rank of a key
 key-rank : (block_keys : List BlockKey) (k : ℕ) (d : BlockKey) → k < length block_keys → get_or (ranks_of block_keys) k 0 ≡ (get_or block_keys k d).rank
 key-rank block_keys k d lt = get_or-map (λ (t : BlockKey). t.rank) block_keys k d 0 lt
 
--- as many turns as edges
+-- as many keys as edges
 pub block_keys-length : (list : List Ranked) (block_keys : List BlockKey) → AreBlockKeys list block_keys → length block_keys ≡ length list
 block_keys-length list block_keys o = sym (length-map block_keys (λ (t : BlockKey). t.rank)) ∙ order-length (length list) (ranks_of block_keys) o
 
--- a turn's rank is a place of the list
+-- the rank of a key is a place of the list
 pub key-low : (list : List Ranked) (block_keys : List BlockKey) (k : ℕ) (d : BlockKey) → AreBlockKeys list block_keys → k < length block_keys → (get_or block_keys k d).rank < length list
 key-low list block_keys k d o lt =
     let long = block_keys-length list block_keys o in
     subst (λ (r : ℕ). r < length list) (key-rank block_keys k d lt) (order-within (length list) (ranks_of block_keys) k o (omega (arith, long)))
 
--- which no turn before it has
+-- which no key before it has
 pub key-new : (list : List Ranked) (block_keys : List BlockKey) (k : ℕ) (d : BlockKey) → AreBlockKeys list block_keys → k < length block_keys → IsNewRank (get_or block_keys k d).rank (given_by list (ranks_of block_keys) k)
 key-new list block_keys k d o lt =
     let long = block_keys-length list block_keys o in
     subst (λ (r : ℕ). IsNewRank r (given_by list (ranks_of block_keys) k)) (key-rank block_keys k d lt) (given-new list (length list) (ranks_of block_keys) k o (omega (arith, long)))
 
--- the edge of a turn, as a part is given it
+-- the edge of a key, as a part is given it
 pub key-read : (list : List Ranked) (block_keys : List BlockKey) (k : ℕ) (d : BlockKey) (e : Ranked) → AreBlockKeys list block_keys → k < length block_keys →
     placed (edge_at list (get_or (ranks_of block_keys) k 0)) ≡ record { rank = (get_or block_keys k d).rank; a = (get_or list (get_or block_keys k d).rank e).u; b = (get_or list (get_or block_keys k d).rank e).v }
 key-read list block_keys k d e o lt =

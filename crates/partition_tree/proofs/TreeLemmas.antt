@@ -1,4 +1,4 @@
--- The tree of an edge list is a forest, and its altitudes are the weights at which vertices get joined.
+-- The tree of an edge list is well formed, and its altitudes are the weights at which vertices get joined.
 use Rattle.std.proofs.Common.{◌≡◌, ◌≢◌, ℕ, ◌+◌, ◌<◌, ◌≤◌, inl, inr, refl, sym, ◌∙◌, ap, arith, length, map, length-append}
 use Rattle.std.specs.Prelude.{replicate}
 use Rattle.std.proofs.lemmas.List.{length-map, length-replicate}
@@ -45,7 +45,7 @@ joins-few n s some h within =
     let first : count_below (is_least (joined s)) 0 < components n s = count-less (is_least (joined s)) 0 n (omega arith) refl in
     omega (arith, sum, first)
 
--- the tree of an edge list is a forest
+-- the tree of an edge list is well formed
 pub tree-well_formed : (n : ℕ) (s : EdgeList) → 1 ≤ n → n ≤ 1048576 → AreApart s → AreWithin n s → IsWellFormed (tree_of n s)
 tree-well_formed n s some few h within =
     let len : nodes (tree_of n s) ≡ n + length (joins s) = length-parents n s in

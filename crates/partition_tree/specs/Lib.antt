@@ -8,3 +8,4 @@ pub mod RankWeights
 pub mod TreeFields
 pub mod Report
 pub mod BlockKeys
+pub mod NearestStops

@@ -21,7 +21,7 @@ pub(crate) struct BlockKey {
     pub(crate) rank: u32,
 }
 
-// The turn of the edge of a rank.
+// The key of the edge of a rank.
 fn block_key(rank: u32, e: &Ranked) -> BlockKey
     ensures { result.rank ≡ rank }
 {
@@ -34,7 +34,7 @@ fn block_key(rank: u32, e: &Ranked) -> BlockKey
     }
 }
 
-// The turns of the edges of a list, in order.
+// The keys of the edges of a list, in order.
 pub(crate) fn block_keys(alloc: Global, list: &[Ranked]) -> Result<Vec<BlockKey>, AllocError>
     requires { length list.now ≤ 4194304 }
     ensures { IfOk result (λ block_keys. AreBlockKeys list.now block_keys.items) }

@@ -2,8 +2,8 @@ ghost use Rattle.std.specs.Prelude.{◌≡◌, ◌≤◌, IfOk};
 ghost use Rattle.node_region.specs.Pool.{count};
 ghost use Rattle.partition_tree.specs.CellNodes.{AreCells, AreListsOfPart, AreCellNodes, node_parents};
 
-use crate::edges::Edges;
 use crate::cell_nodes::{CellNodes, cells_by_rank};
+use crate::edges::Edges;
 use crate::parents::{parents, parents_in_threads};
 use border_climb::Part;
 use std::alloc::{AllocError, Global};

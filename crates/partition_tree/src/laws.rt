@@ -7,7 +7,7 @@ ghost use Rattle.edge_laws.specs.Saliency.{AreByWeight};
 ghost use Rattle.partition_tree.specs.TreeLists.{IsWellFormed};
 ghost use Rattle.partition_tree.specs.CellNodes.{IsPlacing, placed_tree};
 
-/// The tree of an edge list is a forest, and where the weights don't fall with the rank, altitudes don't fall from
+/// The tree of an edge list is well formed, and where the weights don't fall with the rank, altitudes don't fall from
 /// child to parent.
 pub fn tree_is_well_formed()
     ensures well_formed { (n : ℕ) (s : EdgeList) → 1 ≤ n → n ≤ 1048576 → AreApart s → AreWithin n s → IsWellFormed (tree_of n s) }

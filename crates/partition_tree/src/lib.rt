@@ -2,24 +2,26 @@
 #![tactic(auto)]
 
 mod ancestors;
+mod block_keys;
+mod cell_nodes;
 mod child_lists;
 mod children;
-mod jump_pointers;
 mod drawn;
 mod edges;
+mod jump_pointers;
 mod laws;
 mod list;
-mod cell_nodes;
 mod parents;
+mod passes;
 mod plan;
 mod report;
 mod tree;
-mod block_keys;
 
 pub use ancestors::Ancestors;
 pub use children::Children;
 pub use laws::{tree_is_well_formed, tree_under_other_names};
 pub use list::Ranked;
+pub use passes::{own_numbers, send_down};
 pub use report::{tree_pieces, write_tree};
 pub use tree::Tree;
 

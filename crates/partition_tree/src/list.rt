@@ -4,10 +4,10 @@ ghost use Rattle.node_region.specs.Pool.{count};
 ghost use Rattle.border_climb.specs.Stands.{Stands};
 ghost use Rattle.partition_tree.specs.Ranked.{IsRankedList, edge_at, edges_of};
 
+use crate::block_keys::block_keys;
 use crate::drawn::drawn;
 use crate::edges::Edges;
 use crate::tree::Tree;
-use crate::block_keys::block_keys;
 use border_climb::Part;
 use hg_base::{OutOfMemory, PlacedEdge};
 use std::alloc::{AllocError, Global};

@@ -4,8 +4,8 @@ ghost use Rattle.std.specs.List.{range_with_len};
 ghost use Rattle.node_region.specs.Pool.{count};
 ghost use Rattle.partition_tree.specs.CellNodes.{AreCellNodes, inner_parent, leaf_parent, node_parents};
 
-use crate::edges::Edges;
 use crate::cell_nodes::{CellNodes, node_or};
+use crate::edges::Edges;
 use border_climb::Part;
 use rayon::prelude::*;
 use std::alloc::{AllocError, Global};

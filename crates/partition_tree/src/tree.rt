@@ -10,7 +10,8 @@ use hg_base::OutOfMemory;
 use std::alloc::Global;
 use std::marker::Model;
 
-/// A forest over the vertices of a graph. Its leaves are the nodes 0 to leaves - 1, and a root is its own parent.
+/// A tree over the vertices of a graph, which may have several roots. Its leaves are the nodes 0 to leaves - 1, and a
+/// root is its own parent.
 /// Each node has an altitude, and each inner node has the number of the edge that made it.
 /// Trees as parent lists: Perret and others, Higra, 2019.
 #[derive(Drop)]

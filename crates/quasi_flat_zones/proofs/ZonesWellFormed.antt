@@ -1,4 +1,4 @@
--- The zones of a forest are a forest.
+-- The zones of a well-formed tree are well formed.
 use Rattle.std.proofs.Common.{◌≡◌, ℕ, sym, ◌∙◌, subst, ap, arith, length}
 use Rattle.std.proofs.lemmas.List.{length-map}
 use Rattle.edge_laws.specs.Edges.{EdgeList, AreApart, AreWithin}

@@ -3,7 +3,7 @@ ghost use Rattle.tree_laws.specs.Zones.{keeps};
 ghost use Rattle.partition_tree.specs.TreeLists.{nodes, IsWellFormed};
 ghost use Rattle.quasi_flat_zones.specs.ZoneNumbers.{zone_numbers, AreMarked, AreNearestNumbers};
 
-use partition_tree::Tree;
+use partition_tree::{Tree, send_down};
 use std::alloc::{AllocError, Global};
 
 /// Which nodes the zones keep.
@@ -48,7 +48,7 @@ pub(crate) fn nearest_numbers(
     ensures nearest { IfOk result (λ numbers. AreNearestNumbers tree.now numbers.items) }
 {
     let mut numbers = zone_numbers(alloc, tree, marks)?;
-    send_down(tree, marks, &mut numbers);
+    send_numbers_down(tree, marks, &mut numbers);
     Ok(numbers)
 }
 
@@ -70,15 +70,18 @@ fn zone_numbers(alloc: Global, tree: &Tree, marks: &[bool]) -> Result<Vec<u32>, 
     Ok(numbers)
 }
 
-// Gives each node that isn't kept its parent's number, from the root down.
-fn send_down(tree: &Tree, marks: &[bool], numbers: &mut [u32])
+// Gives each node that isn't kept its parent's number, from the roots down.
+fn send_numbers_down(tree: &Tree, marks: &[bool], numbers: &mut [u32])
     requires marks { AreMarked tree.now marks.now }
     requires own { numbers.old ≡ zone_numbers tree.now }
     ensures { AreNearestNumbers tree.now numbers.new }
 {
-    for i in (0..tree.nodes()).rev() {
-        if !keeps(tree, marks, i) {
-            numbers[i as usize] = numbers[tree.parent(i) as usize];
-        }
-    }
+    send_down(
+        tree,
+        |i: u32|
+            requires { AreMarked tree.now marks.now × (i < nodes tree.now) }
+            ensures { result ≡ keeps tree.entry.now i }
+        { keeps(tree, marks, i) },
+        numbers,
+    );
 }

@@ -156,7 +156,12 @@ fn piece<L: Lines>(alloc: Global, lines: &L, k: usize) -> Result<Vec<u8>, AllocE
     ensures { IfOk result (λ text. text.items ≡ lines_of_piece (L.line lines.now) (L.count lines.now) k) }
 {
     let count = lines.len();
-    lines_text(alloc, lines, piece_start(count, k), piece_start(count, k + 1))
+    lines_text(
+        alloc,
+        lines,
+        piece_start(count, k),
+        piece_start(count, k + 1),
+    )
 }
 
 // Where piece k of sixteen begins.

@@ -6,10 +6,10 @@ ghost use Rattle.tree_laws.specs.Tree.{tree_of};
 ghost use Rattle.edge_laws.specs.Saliency.{AreByWeight, at_most};
 ghost use Rattle.tree_laws.specs.Levels.{AltitudesRise, shares};
 ghost use Rattle.partition_tree.specs.TreeLists.{nodes, IsWellFormed};
-ghost use Rattle.saliency.specs.Tops.{AreTops, AreFirstKeys};
+ghost use Rattle.saliency.specs.Tops.{is_last_to, AreTops, AreFirstKeys};
 
 use hg_base::{Labels, OutOfMemory, number_keys};
-use partition_tree::Tree;
+use partition_tree::{Tree, own_numbers, send_down};
 use std::alloc::{AllocError, Global};
 
 /// The regions of a tree cut at a level: two leaves are in one region where some node of altitude at most `level` is
@@ -44,33 +44,24 @@ fn tops(alloc: Global, tree: &Tree, level: u64) -> Result<Vec<u32>, AllocError>
     ensures tops { IfOk result (λ tops. AreTops tree.now level tops.items) }
 {
     let mut tops = own_numbers(alloc, tree.nodes())?;
-    send_down(tree, level, &mut tops);
+    send_tops_down(tree, level, &mut tops);
     Ok(tops)
 }
 
-/// The numbers below n.
-pub(crate) fn own_numbers(alloc: Global, n: u32) -> Result<Vec<u32>, AllocError>
-    ensures { IfOk result (λ numbers. numbers.items ≡ range_with_len 0 n) }
-{
-    let mut numbers = Vec::with_capacity(alloc, n as usize)?;
-    for i in 0..n {
-        numbers.push(i)?;
-    }
-    Ok(numbers)
-}
-
-// Gives each node whose parent is up to the level its parent's top, from the root down.
-fn send_down(tree: &Tree, level: u64, tops: &mut [u32])
+// Gives each node whose parent is up to the level its parent's top, from the roots down.
+fn send_tops_down(tree: &Tree, level: u64, tops: &mut [u32])
     requires rise { AltitudesRise tree.now }
     requires own { tops.old ≡ range_with_len 0 (nodes tree.now) }
     ensures { AreTops tree.now level tops.new }
 {
-    for i in (0..tree.nodes()).rev() {
-        let parent = tree.parent(i);
-        if tree.altitude(parent) <= level {
-            tops[i as usize] = tops[parent as usize];
-        }
-    }
+    send_down(
+        tree,
+        |i: u32|
+            requires { i < nodes tree.now }
+            ensures { result ≡ is_last_to tree.entry.now level i }
+        { level < tree.altitude(tree.parent(i)) },
+        tops,
+    );
 }
 
 // The top of each leaf.

@@ -1,5 +1,6 @@
 ghost use Rattle.std.specs.Prelude.{◌≡◌, length, IfOk};
-ghost use Rattle.saliency.specs.Report.{saliency_report, value_line};
+ghost use Rattle.report_lines.specs.Lines.{value_line};
+ghost use Rattle.saliency.specs.Report.{saliency_report};
 
 use hg_base::OutOfMemory;
 use report_lines::{LineWriter, Lines, Pieces, pieces_of, text_of};

@@ -1,4 +1,4 @@
-ghost use Rattle.std.specs.Prelude.{◌≡◌, ◌↔◌, ◌<◌, length, IfOk, IsTrue};
+ghost use Rattle.std.specs.Prelude.{◌≡◌, ◌↔◌, ◌<◌, length, IfOk, IsTrue, false};
 ghost use Rattle.std.specs.List.{range_with_len};
 ghost use Rattle.hg_base.specs.Graph.{first_end, second_end};
 ghost use Rattle.partition_tree.specs.TreeLists.{nodes};
@@ -6,9 +6,8 @@ ghost use Rattle.partition_tree.specs.Paths.{ShareRoot};
 ghost use Rattle.saliency.specs.Roots.{AreRoots};
 ghost use Rattle.saliency.specs.Values.{EndsShareRoots};
 
-use crate::regions::own_numbers;
 use hg_base::{Graph, OutOfMemory};
-use partition_tree::Tree;
+use partition_tree::{Tree, own_numbers, send_down};
 use std::alloc::{AllocError, Global};
 
 /// Whether the ends of each edge of a graph have one root in a tree whose leaves are the vertices, as they must where
@@ -37,15 +36,18 @@ fn roots(alloc: Global, tree: &Tree) -> Result<Vec<u32>, AllocError>
     Ok(roots)
 }
 
-// Gives each node its parent's root, from the root down.
+// Gives each node its parent's root, from the roots down.
 fn send_roots_down(tree: &Tree, roots: &mut [u32])
     requires { roots.old ≡ range_with_len 0 (nodes tree.now) }
     ensures { AreRoots tree.now roots.new }
 {
-    for i in (0..tree.nodes()).rev() {
-        let parent = tree.parent(i);
-        roots[i as usize] = roots[parent as usize];
-    }
+    send_down(
+        tree,
+        |_: u32|
+            ensures { result ≡ false }
+        { false },
+        roots,
+    );
 }
 
 // Whether the ends of each edge have one of these roots.

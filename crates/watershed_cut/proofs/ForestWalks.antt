@@ -13,7 +13,7 @@ use Rattle.edge_laws.proofs.Drops.{holds}
 use Rattle.watershed_cut.specs.Minima.{IsMinimumEdge, InMinimum}
 use Rattle.watershed_cut.specs.MinimumTests.{is_minimum, in_minimum, same_minimum, is_head, vertex_label, edge_label}
 use Rattle.watershed_cut.specs.Forest.{Reaches, reaches, IsForestEdge, is_forest}
-use Rattle.watershed_cut.proofs.AnyIn.{any-from, any-to, range-from}
+use Rattle.partition_tree.proofs.ListTests.{any-from, any-to, range-from}
 use Rattle.watershed_cut.proofs.MinimumWalks.{minimum-to, minimum-from, in_minimum-to, in_minimum-from}
 
 -- what is in no minimum has the label 0, and nothing else has

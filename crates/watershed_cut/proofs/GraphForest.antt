@@ -18,7 +18,7 @@ use Rattle.watershed_cut.specs.MinimumTests.{is_minimum, minimum_edges}
 use Rattle.watershed_cut.specs.MinimumLabels.{numbered}
 use Rattle.watershed_cut.specs.Forest.{reaches, is_forest, IsForestList, forest}
 use Rattle.watershed_cut.specs.Rooted.{IsRooted}
-use Rattle.watershed_cut.proofs.AnyIn.{range-to, range-from}
+use Rattle.partition_tree.proofs.ListTests.{range-to, range-from}
 use Rattle.watershed_cut.proofs.ForestLaws.{forest-reach, forest-one, forest-long}
 use Rattle.watershed_cut.proofs.MinimumWalks.{minimum-from}
 use Rattle.watershed_cut.proofs.Star.{in-map, map-in}

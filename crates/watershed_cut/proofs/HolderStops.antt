@@ -1,13 +1,15 @@
 -- The passes that mark the nodes above vertices in minima, and find the nearest.
-use Rattle.std.proofs.Common.{◌≡◌, ℕ, zero, suc, ◌+◌, ◌<◌, ◌≤◌, Bool, true, false, ◌⊎◌, inl, inr, refl, sym, ◌∙◌, subst, ap, arith, List, length, length-set, get_or, set, replicate}
+use Rattle.std.proofs.Common.{◌≡◌, ℕ, zero, suc, ◌+◌, ◌<◌, ◌≤◌, Bool, true, false, inl, inr, refl, sym, ◌∙◌, subst, ap, arith, List, length, length-set, get_or, set, replicate}
 use Rattle.std.specs.Prelude.{◌==◌, not}
 use Rattle.std.specs.List.{range_with_len}
 use Rattle.std.proofs.lemmas.Bool.{cases_eq, both_ways, true≢false, eqb-false, ne_eqb, not-true, not_from_false}
 use Rattle.std.proofs.lemmas.List.{get_or-set_same, get_or-set_other}
-use Rattle.std.proofs.lemmas.List.FromFn.{length-range_with_len, get_or-range_with_len}
 use Rattle.tree_laws.specs.Tree.{ParentTree, parent, ancestor, IsAbove}
 use Rattle.tree_laws.specs.Levels.{IsClimbing}
-use Rattle.tree_laws.proofs.Climbs.{ancestor-root, ancestor-within, above-on, above-next, above-parent, above-rises}
+use Rattle.tree_laws.proofs.Climbs.{ancestor-root, ancestor-within, above-within, above-parent, above-rises}
+use Rattle.partition_tree.specs.TreeLists.{nodes}
+use Rattle.partition_tree.specs.NearestStops.{IsNearestStop, AreOfStops}
+use Rattle.partition_tree.proofs.NearestStops.{stop-numbers, stop-within}
 use Rattle.watershed_cut.specs.NearestHolders.{Holds, AreLeafHolders, AreHolders, IsNearestHolder, AreNearestHolders}
 
 -- no leaf is marked yet
@@ -110,80 +112,27 @@ sent_up-all t c few labels i holds all a = record {
     along x hx l zero = a.leaf x hx l
     along x hx l (suc d) = a.closed (ancestor t d x) (let within : ancestor t d x < length t.parents = ancestor-within t c d x (omega arith) in omega arith) (along x hx l d)
 
--- the nearest nodes once those of the nodes from i on are there
-pub record AreNearestFrom (t : ParentTree) (labels : List ℕ) (i : ℕ) (near : List ℕ) : Type 0 where
-  pub one_each : length near ≡ length t.parents
-  pub done : (j : ℕ) → i ≤ j → j < length t.parents → IsNearestHolder t labels j (get_or near j 0)
-  pub left : (j : ℕ) → j < i → j < length t.parents → get_or near j 0 ≡ j
-
-pub nearest-first : (t : ParentTree) (labels : List ℕ) (n : ℕ) (near : List ℕ) → n ≡ length t.parents → near ≡ range_with_len 0 (length t.parents) → AreNearestFrom t labels n near
-nearest-first t labels n near all same = record {
-  one_each = ap (λ (xs : List ℕ). length xs) same ∙ length-range_with_len 0 (length t.parents);
-  done = λ j low high. absurd (omega arith);
-  left = λ j l h. ap (λ (xs : List ℕ). get_or xs j 0) same ∙ get_or-range_with_len 0 (length t.parents) j 0 h ∙ omega arith;
-}
-
--- the node or one above it
-from_or : (i j : ℕ) → i ≤ j → (i ≡ j) ⊎ (i + 1 ≤ j)
-from_or i j h = elim (cases_eq i j) [ inl level ↦ inl level | inr other ↦ inr (grind (arith, h, other)) ]
-
--- a node that holds is its own nearest
-pub nearest-self : (t : ParentTree) → IsClimbing t → (labels : List ℕ) (holds : List Bool) (i : ℕ) (near : List ℕ) → AreHolders t labels holds → i < length t.parents → AreNearestFrom t labels (i + 1) near → get_or holds i false ≡ true → AreNearestFrom t labels i near
-nearest-self t c labels holds i near marks hi a on = record {
-  one_each = a.one_each;
-  done = λ j from h. elim (from_or i j from) [
-    | inl same ↦ subst (λ (m : ℕ). IsNearestHolder t labels m (get_or near m 0)) same (subst (λ (q : ℕ). IsNearestHolder t labels i q) (sym (a.left i (omega arith) hi)) (record {
-      node = hi;
-      above = (0, refl);
-      least = λ k b l. above-rises t c k i hi b;
-      holds = λ k b l. (marks.each i hi).0 on;
-    }))
-    | inr later ↦ a.done j later h
+-- the nearest marked node on the path is the nearest above a vertex in a minimum
+nearest-of_stop : (t : ParentTree) → IsClimbing t → (labels : List ℕ) (holds : List Bool) → AreHolders t labels holds → (i q : ℕ) → i < nodes t → IsNearestStop t (λ j. get_or holds j false) i q → IsNearestHolder t labels i q
+nearest-of_stop t c labels holds marks i q hi n = record {
+  node = within;
+  above = n.above;
+  least = λ k b l. above-rises t c k q within (up k b l);
+  holds = λ k b l. elim n.stop [
+    | inl on ↦ (marks.each q within).0 on
+    | inr root ↦ (let over = up k b l in subst (λ (m : ℕ). Holds t labels m) (sym over.1 ∙ ancestor-root t q root over.0) l)
   ];
-  left = λ j l h. a.left j (omega arith) h;
-}
-
--- another has its parent's
-pub nearest-parent : (t : ParentTree) → IsClimbing t → (labels : List ℕ) (holds : List Bool) (i p : ℕ) (near : List ℕ) → AreHolders t labels holds → i < length t.parents → p ≡ parent t i → AreNearestFrom t labels (i + 1) near → get_or holds i false ≡ false →
-    AreNearestFrom t labels i (set near i (get_or near p 0))
-nearest-parent t c labels holds i p near marks hi is a off = record {
-  one_each = length-set near i (get_or near p 0) ∙ a.one_each;
-  done = λ j from h. elim (from_or i j from) [
-    | inl same ↦ subst (λ (m : ℕ). IsNearestHolder t labels m (get_or (set near i (get_or near p 0)) m 0)) same (subst (λ (q : ℕ). IsNearestHolder t labels i q) (sym here) own)
-    | inr later ↦ subst (λ (q : ℕ). IsNearestHolder t labels j q) (sym (get_or-set_other near i j (get_or near p 0) 0 (λ e. omega arith))) (a.done j later h)
-  ];
-  left = λ j l h. get_or-set_other near i j (get_or near p 0) 0 (λ e. omega arith) ∙ a.left j (omega arith) h;
 }
   where
-    here : get_or (set near i (get_or near p 0)) i 0 ≡ get_or near p 0
-    here = get_or-set_same near i (get_or near p 0) 0 (let long = a.one_each in omega arith)
+    within : q < nodes t
+    within = stop-within t c (λ j. get_or holds j false) i q hi n
 
-    none_here : Holds t labels i → ⊥
-    none_here h = both_ways _ off ((marks.each i hi).1 h)
+    up : (k : ℕ) → IsAbove t k i → Holds t labels k → IsAbove t k q
+    up k b l = n.nearest k b (inl ((marks.each k (above-within t c k i hi b)).1 l))
 
-    at_parent : (q : ℕ) → IsNearestHolder t labels (parent t i) q → IsNearestHolder t labels i q
-    at_parent q n = record {
-      node = n.node;
-      above = above-on t q (parent t i) i n.above (1, refl);
-      least = λ k b l. elim (above-next t k i b) [ inl same ↦ absurd (none_here (subst (λ (m : ℕ). Holds t labels m) same l)) | inr up ↦ n.least k up l ];
-      holds = λ k b l. elim (above-next t k i b) [ inl same ↦ absurd (none_here (subst (λ (m : ℕ). Holds t labels m) same l)) | inr up ↦ n.holds k up l ];
-    }
-
-    at_root : parent t i ≡ i → IsNearestHolder t labels i i
-    at_root root = record {
-      node = hi;
-      above = (0, refl);
-      least = λ k b l. above-rises t c k i hi b;
-      holds = λ k b l. subst (λ (m : ℕ). Holds t labels m) (sym b.1 ∙ ancestor-root t i root b.0) l;
-    }
-
-    own : IsNearestHolder t labels i (get_or near p 0)
-    own = subst (λ (m : ℕ). IsNearestHolder t labels i (get_or near m 0)) (sym is) (elim (cases_eq (parent t i) i) [
-      | inl root ↦ subst (λ (q : ℕ). IsNearestHolder t labels i q) (sym (ap (λ (m : ℕ). get_or near m 0) root ∙ a.left i (omega arith) hi)) (at_root root)
-      | inr other ↦
-          let up : i ≤ parent t i = c.rises i hi in
-          at_parent (get_or near (parent t i) 0) (a.done (parent t i) (grind (arith, up, other)) (c.within i hi))
-    ])
-
-pub nearest-all : (t : ParentTree) (labels near : List ℕ) → AreNearestFrom t labels 0 near → AreNearestHolders t labels near
-nearest-all t labels near a = record { one_each = a.one_each; each = λ i h. a.done i (omega arith) h }
+-- numbers that were sent down to it are the nearest
+pub nearest-of_stops : (t : ParentTree) → IsClimbing t → (labels : List ℕ) (holds : List Bool) (own near : List ℕ) → AreHolders t labels holds → own ≡ range_with_len 0 (nodes t) → AreOfStops t (λ j. get_or holds j false) own near → AreNearestHolders t labels near
+nearest-of_stops t c labels holds own near marks numbers a = record {
+  one_each = a.one_each;
+  each = λ i h. nearest-of_stop t c labels holds marks i (get_or near i 0) h (stop-numbers t c (λ j. get_or holds j false) own near numbers a i h);
+}

@@ -1,4 +1,3 @@
-pub mod AnyIn
 pub mod MinimumWalks
 pub mod ForestWalks
 pub mod PlateauStops

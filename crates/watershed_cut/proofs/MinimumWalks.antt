@@ -12,7 +12,7 @@ use Rattle.edge_laws.proofs.Drops.{holds}
 use Rattle.hg_base.proofs.Counts.{is_least-from, is_least-to}
 use Rattle.watershed_cut.specs.Minima.{level, IsEnd, IsMinimumEdge, HasNoEdge, InMinimum, SameMinimum, IsHead}
 use Rattle.watershed_cut.specs.MinimumTests.{has_end, is_lower, is_minimum, minimum_edges, has_no_edge, in_minimum, same_minimum, is_head}
-use Rattle.watershed_cut.proofs.AnyIn.{any-from, any-to}
+use Rattle.partition_tree.proofs.ListTests.{any-from, any-to}
 
 -- ends
 pub end-to : (x : ℕ) (e : ListedEdge) → has_end x e ≡ true → IsEnd x e

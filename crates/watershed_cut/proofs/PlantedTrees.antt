@@ -16,7 +16,7 @@ use Rattle.watershed_cut.specs.MinimumLabels.{numbered}
 use Rattle.watershed_cut.specs.MinimumTests.{minimum_edges}
 use Rattle.watershed_cut.specs.Rooted.{planted}
 use Rattle.watershed_cut.specs.Watershed.{IsWatershed, WatershedCut, is_cut_edge, tree_label, watershed_of}
-use Rattle.watershed_cut.proofs.AnyIn.{range-from, range-to}
+use Rattle.partition_tree.proofs.ListTests.{range-from, range-to}
 use Rattle.watershed_cut.proofs.GraphForest.{forest-rooted, graph-forest}
 use Rattle.watershed_cut.proofs.LeastForest.{forest-least}
 use Rattle.watershed_cut.proofs.TreeLabels.{cut-between, tree-label_walk}

@@ -14,7 +14,7 @@ use Rattle.edge_laws.proofs.Walks.{IsSame-joined, joined-ends, Joined-joined}
 use Rattle.edge_laws.proofs.Drops.{holds}
 use Rattle.watershed_cut.specs.Minima.{level, IsMinimumEdge, HasNoEdge, InMinimum}
 use Rattle.watershed_cut.specs.MinimumTests.{in_minimum}
-use Rattle.watershed_cut.proofs.AnyIn.{range-to, range-from}
+use Rattle.partition_tree.proofs.ListTests.{range-to, range-from}
 use Rattle.watershed_cut.proofs.Counting.{pile, pile-from, pile-to, IsFree, free-count, components-none, count-from, count-not}
 use Rattle.watershed_cut.proofs.MinimumWalks.{level-to, joined-own, stays, in_minimum-to, in_minimum-from}
 

@@ -22,7 +22,7 @@ use Rattle.watershed_cut.specs.Minima.{InMinimum, SameMinimum}
 use Rattle.watershed_cut.specs.MinimumTests.{minimum_edges, in_minimum, same_minimum, is_head, minimum_count, vertex_label}
 use Rattle.watershed_cut.specs.Forest.{is_forest, trees, IsForestList}
 use Rattle.watershed_cut.specs.Watershed.{reaches_label, tree_label, is_cut_edge}
-use Rattle.watershed_cut.proofs.AnyIn.{any-from, any-to, range-to, range-from}
+use Rattle.partition_tree.proofs.ListTests.{any-from, any-to, range-to, range-from}
 use Rattle.watershed_cut.proofs.ForestLaws.{forest-reach, forest-one}
 use Rattle.watershed_cut.proofs.ForestWalks.{label-zero}
 use Rattle.watershed_cut.proofs.MinimumWalks.{in_minimum-to, in_minimum-from, same_minimum-to, same_minimum-from}

@@ -1,5 +1,5 @@
 -- What the passes over a tree's nodes give.
-use Rattle.std.specs.Prelude.{◌≡◌, ◌≢◌, ◌↔◌, ◌==◌, ℕ, ◌<◌, ◌≤◌, ◌⊎◌, Bool, true, false, List, length, get_or, map, Option, Some, None, if◌then◌else◌}
+use Rattle.std.specs.Prelude.{◌≡◌, ◌≢◌, ◌↔◌, ◌==◌, ℕ, ◌<◌, ◌≤◌, ◌⊎◌, Bool, true, false, not, List, length, get_or, map, Option, Some, None, if◌then◌else◌}
 use Rattle.hg_base.specs.Graph.{WeightedGraph, first_end, second_end, weight}
 use Rattle.edge_laws.specs.Rank.{numbers}
 use Rattle.tree_laws.specs.Tree.{ParentTree, parent, altitude}
@@ -8,6 +8,10 @@ use Rattle.tree_laws.specs.Levels.{IsTop}
 -- j is the plateau of node i: the last node on its path that has its altitude
 abbrev pub IsPlateau : ParentTree → ℕ → ℕ → Type 0
 IsPlateau t i j = IsTop t (altitude t i) i j
+
+-- the parent of node i has another altitude
+abbrev pub ends_plateau : ParentTree → ℕ → Bool
+ends_plateau t i = not (altitude t (parent t i) == altitude t i)
 
 -- for each node its plateau
 pub record ArePlateaus (t : ParentTree) (tops : List ℕ) : Type 0 where

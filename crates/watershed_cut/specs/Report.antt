@@ -1,17 +1,14 @@
 -- The bytes of the reports of minima and of a watershed cut.
-use Rattle.std.specs.Prelude.{ℕ, List, [], ◌∷◌, ◌++◌, codes, length, get_or}
+use Rattle.std.specs.Prelude.{ℕ, List, [], ◌∷◌, ◌++◌, codes, length}
 use Rattle.std.specs.List.{range_with_len, flat_map}
 use Rattle.hg_base.specs.Text.{headed_line}
+use Rattle.report_lines.specs.Lines.{headed_value_line}
 use Rattle.watershed_cut.specs.MinimumLabels.{LabelledMinima}
 use Rattle.watershed_cut.specs.Watershed.{WatershedCut}
 
--- a word, a number and its label
-abbrev pub label_line : List ℕ → List ℕ → ℕ → List ℕ
-label_line word labels x = headed_line word (x ∷ get_or labels x 0 ∷ [])
-
 -- a line for each label
 abbrev pub label_lines : List ℕ → List ℕ → List ℕ
-label_lines word labels = flat_map (label_line word labels) (range_with_len 0 (length labels))
+label_lines word labels = flat_map (headed_value_line word labels) (range_with_len 0 (length labels))
 
 -- a line for each number
 abbrev pub number_lines : List ℕ → List ℕ → List ℕ

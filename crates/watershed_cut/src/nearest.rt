@@ -1,11 +1,10 @@
-ghost use Rattle.std.specs.Prelude.{◌≡◌, ◌<◌, ◌≤◌, length, IfOk};
+ghost use Rattle.std.specs.Prelude.{◌≡◌, ◌<◌, ◌≤◌, length, get_or, false, IfOk};
 ghost use Rattle.std.specs.List.{range_with_len};
 ghost use Rattle.partition_tree.specs.TreeLists.{nodes, IsWellFormed};
 ghost use Rattle.watershed_cut.specs.NearestHolders.{AreLeafHolders, AreHolders, AreNearestHolders};
 
 use crate::minima::Minima;
-use crate::plateaus::own_numbers;
-use partition_tree::Tree;
+use partition_tree::{Tree, own_numbers, send_down};
 use std::alloc::{AllocError, Global};
 
 /// For each node the nearest node on its path that is above a vertex in a minimum.
@@ -20,7 +19,7 @@ pub(crate) fn nearest_holders(
 {
     let holds = holders(alloc, tree, minima)?;
     let mut near = own_numbers(alloc, tree.nodes())?;
-    send_nearest(tree, minima, &holds, &mut near);
+    send_nearest_down(tree, minima, &holds, &mut near);
     Ok(near)
 }
 
@@ -59,16 +58,19 @@ fn send_up(tree: &Tree, minima: &Minima, holds: &mut [bool])
     }
 }
 
-// Gives each node that isn't marked its parent's nearest node, from the root down.
-fn send_nearest(tree: &Tree, minima: &Minima, holds: &[bool], near: &mut [u32])
+// Gives each node that isn't marked its parent's nearest node, from the roots down.
+fn send_nearest_down(tree: &Tree, minima: &Minima, holds: &[bool], near: &mut [u32])
     requires holds { AreHolders tree.now minima.now.vertices holds.now }
     requires own { near.old ≡ range_with_len 0 (nodes tree.now) }
     ensures { AreNearestHolders tree.now minima.now.vertices near.new }
 {
     let _ = minima;
-    for i in (0..tree.nodes()).rev() {
-        if !holds[i as usize] {
-            near[i as usize] = near[tree.parent(i) as usize];
-        }
-    }
+    send_down(
+        tree,
+        |i: u32|
+            requires { i < length holds.now }
+            ensures { result ≡ get_or holds.entry.now i false }
+        { holds[i as usize] },
+        near,
+    );
 }

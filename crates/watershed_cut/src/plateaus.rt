@@ -2,9 +2,9 @@ ghost use Rattle.std.specs.Prelude.{◌≡◌, ◌<◌, IfOk};
 ghost use Rattle.std.specs.List.{range_with_len};
 ghost use Rattle.tree_laws.specs.Levels.{AltitudesRise};
 ghost use Rattle.partition_tree.specs.TreeLists.{nodes, IsWellFormed};
-ghost use Rattle.watershed_cut.specs.Plateaus.{ArePlateaus, AreOverLower, IsPlateauKey, ArePlateauKeys};
+ghost use Rattle.watershed_cut.specs.Plateaus.{ends_plateau, ArePlateaus, AreOverLower, IsPlateauKey, ArePlateauKeys};
 
-use partition_tree::Tree;
+use partition_tree::{Tree, own_numbers, send_down};
 use std::alloc::{AllocError, Global};
 
 /// For each leaf the plateau of its parent, where no lower inner node is below it: the last node on its path that has
@@ -26,33 +26,24 @@ fn plateaus(alloc: Global, tree: &Tree) -> Result<Vec<u32>, AllocError>
     ensures tops { IfOk result (λ tops. ArePlateaus tree.now tops.items) }
 {
     let mut tops = own_numbers(alloc, tree.nodes())?;
-    send_down(tree, &mut tops);
+    send_plateaus_down(tree, &mut tops);
     Ok(tops)
 }
 
-/// The numbers below n.
-pub(crate) fn own_numbers(alloc: Global, n: u32) -> Result<Vec<u32>, AllocError>
-    ensures { IfOk result (λ numbers. numbers.items ≡ range_with_len 0 n) }
-{
-    let mut numbers = Vec::with_capacity(alloc, n as usize)?;
-    for i in 0..n {
-        numbers.push(i)?;
-    }
-    Ok(numbers)
-}
-
-// Gives each node of its parent's altitude its parent's plateau, from the root down.
-fn send_down(tree: &Tree, tops: &mut [u32])
+// Gives each node of its parent's altitude its parent's plateau, from the roots down.
+fn send_plateaus_down(tree: &Tree, tops: &mut [u32])
     requires rise { AltitudesRise tree.now }
     requires own { tops.old ≡ range_with_len 0 (nodes tree.now) }
     ensures { ArePlateaus tree.now tops.new }
 {
-    for i in (0..tree.nodes()).rev() {
-        let parent = tree.parent(i);
-        if tree.altitude(parent) == tree.altitude(i) {
-            tops[i as usize] = tops[parent as usize];
-        }
-    }
+    send_down(
+        tree,
+        |i: u32|
+            requires { i < nodes tree.now }
+            ensures { result ≡ ends_plateau tree.entry.now i }
+        { tree.altitude(tree.parent(i)) != tree.altitude(i) },
+        tops,
+    );
 }
 
 // Which nodes are plateaus of the parent of a lower inner node.

@@ -1,11 +1,12 @@
 ghost use Rattle.std.specs.Prelude.{◌≡◌, [], ◌∷◌, codes, get_or, length, IfOk};
 ghost use Rattle.hg_base.specs.Text.{headed_line};
-ghost use Rattle.watershed_cut.specs.Report.{label_line, minima_report, watershed_report};
+ghost use Rattle.report_lines.specs.Lines.{headed_value_line};
+ghost use Rattle.watershed_cut.specs.Report.{minima_report, watershed_report};
 
 use crate::cuts::Watershed;
 use crate::minima::Minima;
-use hg_base::{Labels, OutOfMemory};
-use report_lines::{LineWriter, Lines, Pieces};
+use hg_base::OutOfMemory;
+use report_lines::{HeadedLabels, LineWriter, Lines, Pieces};
 use std::alloc::{AllocError, Global};
 use std::thread::Threads;
 
@@ -111,7 +112,8 @@ fn watershed_text(
 {
     let mut text = LineWriter::new(alloc);
     text.push_headed_line("watershed", &watershed_sizes(watershed, minima, weight))?;
-    text.push_lines(&VertexLines {
+    text.push_lines(&HeadedLabels {
+        word: "v",
         labels: watershed.labels(),
     })?;
     text.push_lines(&NumberLines {
@@ -154,7 +156,8 @@ fn pieces_of_watershed(
     pieces.push_lines(
         rt,
         alloc,
-        &VertexLines {
+        &HeadedLabels {
+            word: "v",
             labels: watershed.labels(),
         },
     )?;
@@ -190,34 +193,6 @@ fn watershed_sizes(watershed: &Watershed, minima: &Minima, weight: u64) -> [u64;
     ]
 }
 
-// A line for each vertex: `v`, its number and its label.
-#[derive(Clone, Copy)]
-struct VertexLines<'a> {
-    labels: &'a Labels,
-}
-
-impl Lines for VertexLines<'_> {
-    ghost count = { λ lines. length lines.labels.now.labels };
-
-    ghost line = { λ lines i. label_line (codes "v") lines.labels.now.labels i };
-
-    fn len(&self) -> usize {
-        self.labels.len() as usize
-    }
-
-    fn room(&self) -> usize {
-        LABEL_LINE
-    }
-
-    #[tactic(auto, using(std::proofs::lemmas::Option::get_or_from_slice_get))]
-    fn write(&self, text: &mut LineWriter, i: usize) -> Result<(), AllocError> {
-        let vertices = self.labels.len() as usize;
-        prove!(i < vertices);
-        let label = u64::from(self.labels.label(i as u32));
-        text.push_headed_line("v", &[i as u64, label])
-    }
-}
-
 // A line for each label: the word, its number and the label.
 #[derive(Clone, Copy)]
 struct LabelLines<'a> {
@@ -228,7 +203,7 @@ struct LabelLines<'a> {
 impl Lines for LabelLines<'_> {
     ghost count = { λ lines. length lines.labels.now };
 
-    ghost line = { λ lines i. label_line lines.word.now lines.labels.now i };
+    ghost line = { λ lines i. headed_value_line lines.word.now lines.labels.now i };
 
     fn len(&self) -> usize {
         self.labels.len()

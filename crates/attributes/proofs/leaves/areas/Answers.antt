@@ -2,7 +2,7 @@ use Rattle.std.proofs.Common.{ℕ, ◌≤◌, sym, ◌∙◌, ap, subst, arith, 
 use Rattle.std.specs.Prelude.{Option, unwrap_or}
 use Rattle.std.proofs.lemmas.List.Elements.{All-push}
 use Rattle.attributes.specs.Attributes.{area}
-use Rattle.attributes.proofs.ListsByNumber.{values_more}
+use Rattle.partition_tree.proofs.ListsByNumber.{values_more}
 use Rattle.attributes.proofs.leaves.areas.Goals as goal
 
 pub loop-x-preserved : goal.loop-x-preserved

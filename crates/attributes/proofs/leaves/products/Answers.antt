@@ -1,5 +1,5 @@
 use Rattle.std.proofs.Common.{◌*◌, get_or, refl}
-use Rattle.attributes.proofs.ListsByNumber.{values_more}
+use Rattle.partition_tree.proofs.ListsByNumber.{values_more}
 use Rattle.attributes.proofs.leaves.products.Goals as goal
 
 pub loop-x-preserved : goal.loop-x-preserved

@@ -1,6 +1,6 @@
 use Rattle.std.proofs.Common.{◌-◌, ◌*◌, ap, get_or, ℕ}
 use Rattle.attributes.specs.Attributes.{altitude_over}
-use Rattle.attributes.proofs.ListsByNumber.{values_more}
+use Rattle.partition_tree.proofs.ListsByNumber.{values_more}
 use Rattle.attributes.proofs.table.volumes.Goals as goal
 
 pub loop-i-preserved : goal.loop-i-preserved

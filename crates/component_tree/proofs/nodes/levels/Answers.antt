@@ -4,12 +4,13 @@ use Rattle.tree_laws.specs.Tree.{altitude}
 use Rattle.component_tree.specs.MinTree.{turned, value_at}
 use Rattle.std.proofs.lemmas.List.FromFn.{length-map-range_with_len}
 use Rattle.component_tree.specs.NodeComponents.{level_in}
-use Rattle.component_tree.proofs.ListSteps.{values_next, split-values}
+use Rattle.partition_tree.proofs.ListsByNumber.{values_more}
+use Rattle.component_tree.proofs.ListSteps.{split-values}
 use Rattle.component_tree.proofs.nodes.levels.Goals as goal
 
 pub loop-x-preserved : goal.loop-x-preserved
 loop-x-preserved c =
-    values_next (λ x. turned c.args.side (value_at c.args.values.now x)) c.loop-x.x c.turned.result c.loop-x.levels.items c.push.new.self.items c.loop-x.invariant
+    values_more (λ x. turned c.args.side (value_at c.args.values.now x)) c.loop-x.x c.turned.result c.loop-x.levels.items c.push.new.self.items c.loop-x.invariant
     (c.turned.ensures ∙ ap (turned c.args.side) c.value.ensures.value) c.in_ok-push.ensures.items
 
 pub returns-clause-levels : goal.returns-clause-levels

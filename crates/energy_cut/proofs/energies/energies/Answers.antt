@@ -2,7 +2,8 @@ use Rattle.std.proofs.Common.{◌≡◌, ◌+◌, ◌*◌, ◌<◌, ◌^◌, ℕ
 use Rattle.std.specs.List.{range_with_len}
 use Rattle.partition_tree.specs.TreeLists.{nodes}
 use Rattle.energy_cut.specs.Energies.{node_energy}
-use Rattle.energy_cut.proofs.Sums.{values_more, energies-fit}
+use Rattle.partition_tree.proofs.ListsByNumber.{values_more}
+use Rattle.energy_cut.proofs.Sums.{energies-fit}
 use Rattle.energy_cut.proofs.energies.energies.Goals as goal
 
 pub loop-i-preserved : goal.loop-i-preserved

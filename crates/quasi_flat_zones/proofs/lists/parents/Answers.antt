@@ -2,7 +2,7 @@ use Rattle.std.proofs.Common.{ℕ, sym, ◌∙◌, ap, arith, get_or}
 use Rattle.tree_laws.specs.Tree.{parent}
 use Rattle.tree_laws.specs.Zones.{keeps, zone_number, next_kept}
 use Rattle.tree_laws.proofs.Kept.{next_kept-parent}
-use Rattle.quasi_flat_zones.proofs.ZoneNumberLemmas.{values_more, values_same}
+use Rattle.partition_tree.proofs.ListsByNumber.{passing_more, passing_same}
 use Rattle.partition_tree.proofs.WellFormed.{well_formed-climbs}
 use Rattle.quasi_flat_zones.proofs.lists.parents.Goals as goal
 use Rattle.quasi_flat_zones.proofs.lists.parents.Goals.{then-keeps+in_ok-push, else-keeps}
@@ -15,7 +15,7 @@ loop-i-preserved c =
     elim c.if-keeps.branch [
       | then-keeps+in_ok-push w ↦
           ap (λ v. v.items) w.parents-is
-          ∙ values_more (λ i. zone_number t (next_kept t i)) (keeps t) c.loop-i.i (get_or c.args.numbers.now w.parent.result 0) c.loop-i.parents.items w.push.new.self.items c.loop-i.invariant
+          ∙ passing_more (λ i. zone_number t (next_kept t i)) (keeps t) c.loop-i.i (get_or c.args.numbers.now w.parent.result 0) c.loop-i.parents.items w.push.new.self.items c.loop-i.invariant
           (sym c.keeps.ensures ∙ w.if-keeps.true)
           (ap (λ (p : ℕ). get_or c.args.numbers.now p 0) w.parent.ensures.value
           ∙ c.requires.nearest.each (parent t c.loop-i.i) (f.within c.loop-i.i (omega (arith, low, c.nodes-i-end.ensures.value)))
@@ -23,5 +23,5 @@ loop-i-preserved c =
           w.in_ok-push.ensures.items
       | else-keeps w ↦
           ap (λ v. v.items) w.parents-is
-          ∙ values_same (λ i. zone_number t (next_kept t i)) (keeps t) c.loop-i.i c.loop-i.parents.items c.loop-i.invariant (sym c.keeps.ensures ∙ w.if-keeps.false)
+          ∙ passing_same (λ i. zone_number t (next_kept t i)) (keeps t) c.loop-i.i c.loop-i.parents.items c.loop-i.invariant (sym c.keeps.ensures ∙ w.if-keeps.false)
     ]

@@ -1,7 +1,7 @@
 use Rattle.std.proofs.Common.{ℕ, ◌+◌, suc, ◌≡◌, List, [], ◌∷◌, ◌++◌, sym, ◌∙◌, ap, arith}
 use Rattle.std.specs.List.{range_with_len}
 use Rattle.hg_base.proofs.Passing.{range_to-suc}
-use Rattle.component_tree.proofs.nodes.own_numbers.Goals as goal
+use Rattle.partition_tree.proofs.passes.own_numbers.Goals as goal
 
 pub loop-i-preserved : goal.loop-i-preserved
 loop-i-preserved c =

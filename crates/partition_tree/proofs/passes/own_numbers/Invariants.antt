@@ -1,6 +1,6 @@
 use Rattle.std.proofs.Common.{◌≡◌}
 use Rattle.std.specs.List.{range_with_len}
-use Rattle.watershed_cut.proofs.plateaus.own_numbers.Given as goal
+use Rattle.partition_tree.proofs.passes.own_numbers.Given as goal
 
 -- the numbers so far
 abbrev pub invariant-loop-i : goal.invariant-loop-i

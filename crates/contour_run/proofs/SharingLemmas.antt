@@ -13,7 +13,7 @@ use Rattle.hg_base.proofs.Sets.{IsIn-joins, joined-among}
 use Rattle.hg_base.proofs.Walks.{IsSame-joined, Joined-joined, joined-ends}
 use Rattle.extinction.specs.Hierarchy.{by_persistence, hierarchy_edges, hierarchy_of}
 use Rattle.extinction.specs.Persistence.{persistences_of}
-use Rattle.extinction.specs.declared.kind.Kind.{Kind}
+use Rattle.hg_base.specs.declared.kind.Kind.{Kind}
 use Rattle.extinction.proofs.LevelZero.{hierarchy-forest, hierarchy-list}
 use Rattle.partition_tree.proofs.PathLemmas.{common-shares}
 use Rattle.saliency.specs.Values.{EndsShareRoots}

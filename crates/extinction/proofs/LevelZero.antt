@@ -41,7 +41,7 @@ use Rattle.extinction.specs.Values.{graph_values}
 use Rattle.extinction.specs.Holding.{holds as holding, child, child_holds, both_hold}
 use Rattle.extinction.specs.Persistence.{persistence, persistences_of}
 use Rattle.extinction.specs.Hierarchy.{by_persistence, hierarchy_edges, hierarchy_of}
-use Rattle.extinction.specs.declared.kind.Kind.{Kind}
+use Rattle.hg_base.specs.declared.kind.Kind.{Kind}
 use Rattle.extinction.proofs.SideLemmas.{IsSide, AreSides, AreChildrenOf}
 use Rattle.extinction.proofs.TreeFacts.{of-graph, graph-children}
 use Rattle.extinction.proofs.HoldLemmas.{holds-from, holds-to}

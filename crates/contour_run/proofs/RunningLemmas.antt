@@ -18,6 +18,7 @@ use Rattle.higra_input.specs.declared.input.Input.TheVariants.{Edges, Picture}
 use Rattle.higra_report.proofs.RefusalLemmas.{IsOther, other-tiles}
 use Rattle.higra_report.specs.Reports.{plan_of}
 use Rattle.higra_report.specs.Theorems.{IsHierarchy}
+use Rattle.higra_report.specs.declared.fault.ReportFault.{ReportFault}
 use Rattle.higra_report.specs.declared.fault.ReportFault.TheVariants as refusals
 use Rattle.higra_cli.specs.Ending.{status_of_read, status_of_write}
 use Rattle.higra_cli.specs.Running.{status_by}
@@ -27,7 +28,7 @@ use Rattle.higra_cli.specs.declared.status.Status.{Status}
 use Rattle.higra_cli.specs.declared.status.Status.TheVariants as statuses
 use Rattle.tile_plan.specs.Plan.{tile_count}
 use Rattle.contour_run.specs.Command.{contours_requested}
-use Rattle.contour_run.specs.Drawing.{AreContoursOf, contours_receipt, contours_refusal}
+use Rattle.contour_run.specs.Drawing.{AreContoursOf, AreDrawn, contours_receipt, contours_refusal}
 use Rattle.contour_run.specs.Running.{Draws, DrawsWith, Ends, EndsWriting, HasStatus, IsAnswerTo, IsFor, Writes, answer_of, status_for}
 use Rattle.contour_run.specs.declared.request.ContourRequest.{ContourRequest}
 
@@ -80,6 +81,11 @@ pub contours_written : (request : ContourRequest) (input : Input) (Done : List �
     → IsHierarchy (graph_of input) → Writes request input Done
 contours_written request input Done drawn bytes accepted contours are done hierarchy =
     record { accepted = accepted; bytes = drawn; contours = contours; done = subst Done are done; hierarchy = hierarchy }
+
+-- where no contours were drawn, none were written
+pub none_drawn : (request : ContourRequest) (input : Input) (out out' : Told) (fault : ReportFault) → AreDrawn request input (Err fault) → out'.faults ≡ out.faults → EndsWriting request input out out' (Err (writes.Report fault))
+none_drawn request input out out' (refusals.Input fault) is quiet = (is, quiet)
+none_drawn request input out out' refusals.OutOfMemory is quiet = quiet
 
 -- the contours were written
 pub Ends-written : (words : List (List ℕ)) (request : ContourRequest) (input : Input) (old new out out' : Told) (receipt : ReceiptState) → contours_requested words ≡ Some request → new.faults ≡ old.faults → GotInput request.made old.bytes new.bytes input

@@ -107,7 +107,7 @@ fn work<S: Source, K: Sink, G: Gate>(
 }
 
 // Draws the contours that are asked for and writes them.
-#[tactic(auto, using(crate::proofs::RunningLemmas::contours_written))]
+#[tactic(auto, using(crate::proofs::RunningLemmas::contours_written, crate::proofs::RunningLemmas::none_drawn))]
 fn write_drawn<K: Sink, G: Gate>(
     rt: &(impl Threads + Sync),
     alloc: Global,

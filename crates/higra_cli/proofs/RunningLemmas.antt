@@ -17,8 +17,9 @@ use Rattle.higra_input.specs.declared.fault.ReadFault.{ReadFault}
 use Rattle.higra_input.specs.declared.fault.ReadFault.TheVariants as reads
 use Rattle.higra_input.specs.declared.input.Input.{Input}
 use Rattle.higra_report.proofs.RefusalLemmas.{refusal-other}
-use Rattle.higra_report.specs.Reports.{component_side, receipt_of, refusal, report_of}
+use Rattle.higra_report.specs.Reports.{IsReportIn, component_side, receipt_of, refusal, report_of}
 use Rattle.higra_report.specs.Theorems.{HasComponents, IsHierarchy}
+use Rattle.higra_report.specs.declared.fault.ReportFault.{ReportFault}
 use Rattle.higra_report.specs.declared.fault.ReportFault.TheVariants as refusals
 use Rattle.higra_cli.specs.Ending.{status_of_read, status_of_write}
 use Rattle.higra_cli.specs.Running.{Ends, EndsWriting, HasStatus, IsAnswerTo, IsFor, Reports, ReportsWith, Writes, answer_of, status_by, status_for}
@@ -102,6 +103,12 @@ Reports-done words request input old new Done asked got writes = record {
 pub reports_written : (request : Request) (input : Input) (Done : List ℕ → Type 0) (bytes : List ℕ) → refusal request input ≡ None → bytes ≡ report_of request input → Done bytes → IsHierarchy (graph_of input)
     → HasComponents (component_side request.report) input → Writes request input Done
 reports_written request input Done bytes accepted are done hierarchy components = record { accepted = accepted; done = subst Done are done; hierarchy = hierarchy; components = components }
+
+-- where no report was made, none was written
+pub none_made : (request : Request) (input : Input) (out out' : Told) (fault : ReportFault) → IsReportIn request.form request.tile request.report input (Err fault) → out'.faults ≡ out.faults → EndsWriting request input out out' (Err (writes.Report fault))
+unfolding refusal
+none_made request input out out' (refusals.Input fault) is quiet = (is, quiet)
+none_made request input out out' refusals.OutOfMemory is quiet = quiet
 
 -- the report was written
 pub Ends-written : (words : List (List ℕ)) (request : Request) (input : Input) (old new out out' : Told) (receipt : ReceiptState) → requested words ≡ Some request → new.faults ≡ old.faults → GotInput request.made old.bytes new.bytes input

@@ -111,7 +111,7 @@ fn work<S: Source, K: Sink, G: Gate>(
 }
 
 // Makes the report that is asked for and writes it.
-#[tactic(auto, using(crate::proofs::RunningLemmas::reports_written), unfolding(higra_report::specs::Reports::refusal, higra_report::specs::Reports::report_of))]
+#[tactic(auto, using(crate::proofs::RunningLemmas::none_made, crate::proofs::RunningLemmas::reports_written), unfolding(higra_report::specs::Reports::refusal, higra_report::specs::Reports::report_of))]
 fn write_report<K: Sink, G: Gate>(
     rt: &(impl Threads + Sync),
     alloc: Global,

@@ -3,8 +3,8 @@ use Rattle.std.specs.Prelude.{Option, codes, map}
 use Rattle.std.proofs.Common.{◌≡◌, ◌∙◌, true, List, ◌∷◌, Some, None, ℕ, refl, sym, ap}
 use Rattle.clap.specs.Words.{App, Row, is_simple, is_simple_and_free}
 use Rattle.clap.proofs.OnLiterals.{clap_on_literals}
-use Rattle.higra_cli.specs.Command.{IsReadable, found_by, with_option}
-use Rattle.higra_cli.specs.Request.{◌>>=◌}
+use Rattle.higra_words.specs.Command.{IsReadable, found_by, with_option}
+use Rattle.higra_words.specs.Request.{◌>>=◌}
 use Rattle.contour_run.specs.Command.{contours_requested, higra_contours, request_in, rows_on, texts_in}
 use Rattle.contour_run.specs.Request.{request_by}
 use Rattle.contour_run.specs.declared.request.ContourRequest.{ContourRequest}

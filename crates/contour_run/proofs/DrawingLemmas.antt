@@ -1,7 +1,7 @@
 -- The contours of pictures in the trees of their graphs.
 use Rattle.std.proofs.Common.{◌≡◌, None, sym, subst}
 use Rattle.extinction.specs.HierarchicalWatershed.{hierarchical_of}
-use Rattle.extinction.specs.declared.kind.Kind.{Kind}
+use Rattle.hg_base.specs.declared.kind.Kind.{Kind}
 use Rattle.graph_hierarchy.specs.Tilings.{receipt_in}
 use Rattle.graph_hierarchy.specs.declared.tiling.Tiling.TheVariants.{Squares}
 use Rattle.hg_base.specs.Graph.{WeightedGraph, IsGraph}
@@ -9,11 +9,11 @@ use Rattle.tree_laws.specs.Tree.{ParentTree}
 use Rattle.merge_board.specs.Seats.{ReceiptState}
 use Rattle.pgm_reader.specs.Raster.{Raster}
 use Rattle.saliency.specs.Values.{EndsShareRoots}
-use Rattle.higra_cli.proofs.PlanningLemmas.{edges_in, receipt_squares}
-use Rattle.higra_cli.specs.Inputs.{graph_of}
-use Rattle.higra_cli.specs.declared.input.Input.TheVariants.{Picture}
-use Rattle.higra_cli.specs.declared.request.Form.TheVariants.{Text}
-use Rattle.higra_cli.specs.declared.request.Report.TheVariants.{Tree}
+use Rattle.higra_report.proofs.PlanningLemmas.{edges_in, receipt_squares}
+use Rattle.higra_input.specs.Inputs.{graph_of}
+use Rattle.higra_input.specs.declared.input.Input.TheVariants.{Picture}
+use Rattle.higra_words.specs.declared.request.Form.TheVariants.{Text}
+use Rattle.higra_words.specs.declared.request.Report.TheVariants.{Tree}
 use Rattle.contour_run.proofs.SharingLemmas.{hierarchy_shares}
 use Rattle.contour_run.specs.Drawing.{contours_receipt}
 use Rattle.contour_run.specs.declared.request.ContourRequest.{ContourRequest}

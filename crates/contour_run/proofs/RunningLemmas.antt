@@ -1,22 +1,36 @@
 -- What the ends of a run come to.
-use Rattle.std.proofs.Common.{◌≡◌, inl, inr, ℕ, List, Option, Some, None, Result, Ok, Err, refl, sym, ap, ◌∙◌, subst, arith}
+use Rattle.std.proofs.Common.{◌≡◌, ◌≢◌, ◌⊎◌, inl, inr, ℕ, List, Option, Some, None, Ok, Err, refl, sym, ap, ◌∙◌, subst, arith}
 use Rattle.std.specs.Io.KnownBytes.{Appends}
-use Rattle.hg_base.specs.Outside.{AppendsPrefix, Rose}
+use Rattle.hg_base.specs.Outside.{AppendsPrefix}
+use Rattle.hg_base.specs.declared.fault.FaultKind.TheVariants.{TooLong}
 use Rattle.hg_base.specs.declared.fault.InputFault.{InputFault}
 use Rattle.merge_board.specs.Seats.{ReceiptState}
-use Rattle.higra_cli.proofs.RunningLemmas.{input_for-got}
-use Rattle.higra_cli.specs.Inputs.{graph_of, input_for}
-use Rattle.higra_cli.specs.Reading.{Told}
-use Rattle.higra_cli.specs.Running.{AreBytesOf, GotInput, IsHierarchy, StoodStill, StopsGetting, status_by}
-use Rattle.higra_cli.specs.declared.input.Input.{Input}
-use Rattle.higra_cli.specs.declared.request.Made.{Made}
-use Rattle.higra_cli.specs.declared.ending.Status.{Status}
-use Rattle.higra_cli.specs.declared.ending.Status.TheVariants as statuses
+use Rattle.higra_words.specs.declared.request.Made.{Made}
+use Rattle.higra_input.proofs.GettingLemmas.{TookBy-got, TookBy-stopped, got_short, input_for-got, risen, took_long}
+use Rattle.higra_input.proofs.ReadingLemmas.{gave_nothing}
+use Rattle.higra_input.specs.Getting.{AreBytesOf, GotInput, StoodStill, StopsGetting, TookBy}
+use Rattle.higra_input.specs.Inputs.{graph_of, input_for, too_long}
+use Rattle.higra_input.specs.Reading.{GaveTooMuch, Told}
+use Rattle.higra_input.specs.declared.fault.ReadFault.{ReadFault}
+use Rattle.higra_input.specs.declared.fault.ReadFault.TheVariants as reads
+use Rattle.higra_input.specs.declared.input.Input.{Input}
+use Rattle.higra_input.specs.declared.input.Input.TheVariants.{Edges, Picture}
+use Rattle.higra_report.proofs.RefusalLemmas.{IsOther, other-tiles}
+use Rattle.higra_report.specs.Reports.{plan_of}
+use Rattle.higra_report.specs.Theorems.{IsHierarchy}
+use Rattle.higra_report.specs.declared.fault.ReportFault.{ReportFault}
+use Rattle.higra_report.specs.declared.fault.ReportFault.TheVariants as refusals
+use Rattle.higra_cli.specs.Ending.{status_of_read, status_of_write}
+use Rattle.higra_cli.specs.Running.{status_by}
+use Rattle.higra_cli.specs.declared.fault.WriteFault.{WriteFault}
+use Rattle.higra_cli.specs.declared.fault.WriteFault.TheVariants as writes
+use Rattle.higra_cli.specs.declared.status.Status.{Status}
+use Rattle.higra_cli.specs.declared.status.Status.TheVariants as statuses
+use Rattle.tile_plan.specs.Plan.{tile_count}
 use Rattle.contour_run.specs.Command.{contours_requested}
-use Rattle.contour_run.specs.Drawing.{AreContoursOf, contours_receipt, contours_refusal}
-use Rattle.contour_run.specs.Running.{Draws, DrawsWith, Ends, EndsWork, EndsWriting, HasStatus, IsAnswerTo, IsFor, Writes, answer_of, status_for}
+use Rattle.contour_run.specs.Drawing.{AreContoursOf, AreDrawn, contours_receipt, contours_refusal}
+use Rattle.contour_run.specs.Running.{Draws, DrawsWith, Ends, EndsWriting, HasStatus, IsAnswerTo, IsFor, Writes, answer_of, status_for}
 use Rattle.contour_run.specs.declared.request.ContourRequest.{ContourRequest}
-pub use Rattle.higra_cli.proofs.RunningLemmas.{stopped_other}
 
 -- the status of a request that got its input is that of the input
 IsFor-got : (request : ContourRequest) (old new : Option (List ℕ)) (input : Input) → GotInput request.made old new input → IsFor request old (status_by (contours_receipt request input) (contours_refusal request.tile input))
@@ -24,7 +38,7 @@ unfolding answer_of
 IsFor-got request old new input got bytes are = ap (status_for request) (input_for-got request.made old new input got bytes are)
 
 -- a fault of what was read is the status
-IsFor-stopped : (request : ContourRequest) (m : Option Made) (old new : Told) (fault : InputFault) → request.made ≡ m → StopsGetting m old new (statuses.Input fault) → IsFor request old.bytes (statuses.Input fault)
+IsFor-stopped : (request : ContourRequest) (m : Option Made) (old new : Told) (fault : InputFault) → request.made ≡ m → StopsGetting m old new (reads.Input fault) → IsFor request old.bytes (statuses.Input fault)
 unfolding answer_of
 IsFor-stopped request (Some m) old new fault is stopped bytes are = cc
 IsFor-stopped request None old new fault is stopped bytes are =
@@ -32,17 +46,25 @@ IsFor-stopped request None old new fault is stopped bytes are =
     ap (λ (o : Option Made). status_for request (input_for o bytes)) is ∙ ap (status_for request) (stopped.1 bytes none)
 
 -- what ended the getting of the input ends the run
-Ends-by : (words : List (List ℕ)) (request : ContourRequest) (m : Option Made) (old new out : Told) (status : Status) → contours_requested words ≡ Some request → request.made ≡ m → StopsGetting m old new status → Ends words old new out out status
-Ends-by words request (Some m) old new out status asked is stopped = subst (λ (s : Status). Ends words old new out out s) (sym stopped) refl
-Ends-by words request None old new out (statuses.Input fault) asked is stopped = ((request, (asked, IsFor-stopped request None old new fault is stopped)), stopped.0, refl)
-Ends-by words request None old new out statuses.ReadFailed asked is stopped = ((request, asked), stopped, refl)
-Ends-by words request None old new out statuses.OutOfMemory asked is stopped = refl
-Ends-by words request None old new out (statuses.Success receipt) asked is stopped = absurd stopped
-Ends-by words request None old new out statuses.Usage asked is stopped = absurd stopped
-Ends-by words request None old new out statuses.WriteFailed asked is stopped = absurd stopped
+Ends-by : (words : List (List ℕ)) (request : ContourRequest) (m : Option Made) (old new out : Told) (fault : ReadFault) → contours_requested words ≡ Some request → request.made ≡ m → StopsGetting m old new fault → Ends words old new out out (status_of_read fault)
+Ends-by words request (Some m) old new out fault asked is stopped = subst (λ (f : ReadFault). Ends words old new out out (status_of_read f)) (sym stopped) refl
+Ends-by words request None old new out (reads.Input fault) asked is stopped =
+    let took : TookBy request.made fault old.bytes new.bytes = subst (λ (m : Option Made). TookBy m fault old.bytes new.bytes) (sym is) (TookBy-stopped None old new fault stopped) in
+    ((request, (asked, IsFor-stopped request None old new fault is stopped)), (request, (asked, took)), stopped.0, refl)
+Ends-by words request None old new out reads.ReadFailed asked is stopped = ((request, asked), stopped, refl)
+Ends-by words request None old new out reads.OutOfMemory asked is stopped = refl
 
-pub Ends-stopped : (words : List (List ℕ)) (request : ContourRequest) (old new out : Told) (status : Status) → contours_requested words ≡ Some request → StopsGetting request.made old new status → Ends words old new out out status
-Ends-stopped words request old new out status asked stopped = Ends-by words request request.made old new out status asked refl stopped
+pub Ends-stopped : (words : List (List ℕ)) (request : ContourRequest) (old new out : Told) (fault : ReadFault) (status : Status) → status ≡ status_of_read fault → contours_requested words ≡ Some request → StopsGetting request.made old new fault → Ends words old new out out status
+Ends-stopped words request old new out fault status is asked stopped =
+    subst (λ (s : Status). Ends words old new out out s) (sym is) (Ends-by words request request.made old new out fault asked refl stopped)
+
+-- no reason for which contours are refused is that the input is too long
+refusal-other : (tile : ℕ) (input : Input) → IsOther (contours_refusal tile input)
+refusal-other tile (Edges graph) = λ e. cc
+refusal-other tile (Picture raster) = other-tiles (tile_count (plan_of tile (Picture raster)))
+
+refused-other : (tile : ℕ) (input : Input) (fault : InputFault) → contours_refusal tile input ≡ Some fault → fault.kind ≢ TooLong
+refused-other tile input fault is = subst IsOther is (refusal-other tile input)
 
 -- the input is accepted
 HasStatus-success : (words : List (List ℕ)) (request : ContourRequest) (input : Input) (old new : Option (List ℕ)) → contours_requested words ≡ Some request → GotInput request.made old new input → contours_refusal request.tile input ≡ None
@@ -60,24 +82,35 @@ pub contours_written : (request : ContourRequest) (input : Input) (Done : List �
 contours_written request input Done drawn bytes accepted contours are done hierarchy =
     record { accepted = accepted; bytes = drawn; contours = contours; done = subst Done are done; hierarchy = hierarchy }
 
--- how the writing of the contours ended the run
-pub Ends-written : (words : List (List ℕ)) (request : ContourRequest) (input : Input) (old new out out' : Told) (result : Result ReceiptState Status) → contours_requested words ≡ Some request → new.faults ≡ old.faults → GotInput request.made old.bytes new.bytes input
-    → EndsWriting request input out out' result → EndsWork words old new out out' result
+-- where no contours were drawn, none were written
+pub none_drawn : (request : ContourRequest) (input : Input) (out out' : Told) (fault : ReportFault) → AreDrawn request input (Err fault) → out'.faults ≡ out.faults → EndsWriting request input out out' (Err (writes.Report fault))
+none_drawn request input out out' (refusals.Input fault) is quiet = (is, quiet)
+none_drawn request input out out' refusals.OutOfMemory is quiet = quiet
+
+-- the contours were written
+pub Ends-written : (words : List (List ℕ)) (request : ContourRequest) (input : Input) (old new out out' : Told) (receipt : ReceiptState) → contours_requested words ≡ Some request → new.faults ≡ old.faults → GotInput request.made old.bytes new.bytes input
+    → EndsWriting request input out out' (Ok receipt) → Ends words old new out out' (statuses.Success receipt)
 unfolding Draws-done
-Ends-written words request input old new out out' (Ok receipt) asked quiet got ends = (
+Ends-written words request input old new out out' receipt asked quiet got ends = (
   subst (λ (r : ReceiptState). HasStatus words old.bytes (statuses.Success r)) (sym ends.1) (HasStatus-success words request input old.bytes new.bytes asked got ends.0.accepted),
   (Draws-done words request input old.bytes new.bytes (Appends out.bytes out'.bytes) asked got ends.0, ends.1),
   quiet,
   ends.2,
 )
-Ends-written words request input old new out out' (Err statuses.WriteFailed) asked quiet got ends =
+
+-- or they weren't
+Ends-failed : (words : List (List ℕ)) (request : ContourRequest) (input : Input) (old new out out' : Told) (fault : WriteFault) → contours_requested words ≡ Some request → new.faults ≡ old.faults → GotInput request.made old.bytes new.bytes input
+    → EndsWriting request input out out' (Err fault) → Ends words old new out out' (status_of_write fault)
+Ends-failed words request input old new out out' writes.WriteFailed asked quiet got ends =
     ((contours_receipt request input, HasStatus-success words request input old.bytes new.bytes asked got ends.0.accepted), Draws-done words request input old.bytes new.bytes (AppendsPrefix out.bytes out'.bytes) asked got ends.0, quiet, ends.1)
-Ends-written words request input old new out out' (Err (statuses.Input fault)) asked quiet got ends =
-    ((request, (asked, subst (λ (o : Option InputFault). IsFor request old.bytes (status_by (contours_receipt request input) o)) ends.0 (IsFor-got request old.bytes new.bytes input got))), quiet, ends.1)
-Ends-written words request input old new out out' (Err statuses.OutOfMemory) asked quiet got ends = ends
-Ends-written words request input old new out out' (Err (statuses.Success receipt)) asked quiet got ends = absurd ends
-Ends-written words request input old new out out' (Err statuses.Usage) asked quiet got ends = absurd ends
-Ends-written words request input old new out out' (Err statuses.ReadFailed) asked quiet got ends = absurd ends
+Ends-failed words request input old new out out' (writes.Report (refusals.Input fault)) asked quiet got ends =
+    ((request, (asked, subst (λ (o : Option InputFault). IsFor request old.bytes (status_by (contours_receipt request input) o)) ends.0 (IsFor-got request old.bytes new.bytes input got))), (request, (asked, TookBy-got request.made old.bytes new.bytes input fault got (refused-other request.tile input fault ends.0))), quiet, ends.1)
+Ends-failed words request input old new out out' (writes.Report refusals.OutOfMemory) asked quiet got ends = ends
+
+pub Ends-unwritten : (words : List (List ℕ)) (request : ContourRequest) (input : Input) (old new out out' : Told) (fault : WriteFault) (status : Status) → status ≡ status_of_write fault → contours_requested words ≡ Some request → new.faults ≡ old.faults → GotInput request.made old.bytes new.bytes input
+    → EndsWriting request input out out' (Err fault) → Ends words old new out out' status
+Ends-unwritten words request input old new out out' fault status is asked quiet got ends =
+    subst (λ (s : Status). Ends words old new out out' s) (sym is) (Ends-failed words request input old new out out' fault asked quiet got ends)
 
 -- a success has one receipt
 pub with_receipt : (words : List (List ℕ)) (old new : Option (List ℕ)) (Done : List ℕ → Type 0) (a b : ReceiptState) → statuses.Success a ≡ statuses.Success b → DrawsWith words old new Done a → DrawsWith words old new Done b
@@ -105,7 +138,14 @@ complete_from words request bytes old new out out' statuses.WriteFailed ends ask
 complete_from words request bytes old new out out' statuses.OutOfMemory ends asked are still = inr (inl refl)
 complete_from words request bytes old new out out' statuses.Usage ends asked are still = cc
 complete_from words request bytes old new out out' statuses.ReadFailed ends asked are still = absurd (risen old.faults new.faults still ends.1)
-  where
-    risen : (before after : ℕ) → StoodStill before after → Rose before after → ⊥
-    risen before after still (inl rose) = omega (arith, still.same)
-    risen before after still (inr ended) = omega (arith, still.below, ended.0)
+
+-- where a source that tells its bytes gave one more than an input may have, and no read failed, the input is too long, or memory ran out
+pub too_long_from : (words : List (List ℕ)) (had bytes : List ℕ) (old new out out' : Told) (status : Status) → Ends words old new out out' status → (status ≡ statuses.Usage → new.bytes ≡ old.bytes)
+    → old.bytes ≡ Some had → GaveTooMuch old.bytes new.bytes bytes → StoodStill old.faults new.faults → (status ≡ statuses.Input too_long) ⊎ (status ≡ statuses.OutOfMemory)
+too_long_from words had bytes old new out out' (statuses.Success receipt) ends unread is much still = absurd (got_short ends.1.0.request.made old.bytes new.bytes ends.1.0.input had bytes ends.1.0.got is much)
+too_long_from words had bytes old new out out' (statuses.Input fault) ends unread is much still =
+    inl (ap (λ (f : InputFault). statuses.Input f) (took_long ends.1.0.made old.bytes new.bytes fault had bytes ends.1.1.1 is much))
+too_long_from words had bytes old new out out' statuses.WriteFailed ends unread is much still = absurd (got_short ends.1.request.made old.bytes new.bytes ends.1.input had bytes ends.1.got is much)
+too_long_from words had bytes old new out out' statuses.OutOfMemory ends unread is much still = inr refl
+too_long_from words had bytes old new out out' statuses.Usage ends unread is much still = absurd (omega (arith, gave_nothing old.bytes new.bytes had bytes is (unread refl) much.gave, much.long))
+too_long_from words had bytes old new out out' statuses.ReadFailed ends unread is much still = absurd (risen old.faults new.faults still ends.1)

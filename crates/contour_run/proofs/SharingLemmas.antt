@@ -14,7 +14,7 @@ use Rattle.edge_laws.proofs.Sets.{IsIn-joins, joined-among}
 use Rattle.edge_laws.proofs.Walks.{IsSame-joined, Joined-joined, joined-ends}
 use Rattle.extinction.specs.HierarchicalWatershed.{by_persistence, persistence_edges, hierarchical_of}
 use Rattle.extinction.specs.Persistence.{persistences_of}
-use Rattle.extinction.specs.declared.kind.Kind.{Kind}
+use Rattle.hg_base.specs.declared.kind.Kind.{Kind}
 use Rattle.extinction.proofs.LevelZero.{hierarchy-forest, hierarchy-list}
 use Rattle.partition_tree.proofs.PathLemmas.{common-shares}
 use Rattle.saliency.specs.Values.{EndsShareRoots}

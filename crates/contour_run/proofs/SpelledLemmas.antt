@@ -1,8 +1,8 @@
 -- Each choice of texts can be spelled: `clap` finds them again.
 use Rattle.std.proofs.Common.{◌≡◌, ℕ, List, Option, Some, None, refl, ap}
 use Rattle.clap.proofs.OnLiterals.{clap_on_literals}
-use Rattle.higra_cli.specs.Command.{with_option}
-use Rattle.higra_cli.specs.Request.{◌>>=◌}
+use Rattle.higra_words.specs.Command.{with_option}
+use Rattle.higra_words.specs.Request.{◌>>=◌}
 use Rattle.contour_run.specs.Command.{contours_requested, higra_contours, options_given, rows_on}
 use Rattle.contour_run.specs.Request.{OptionTexts, request_by}
 use Rattle.contour_run.specs.Spelled.{words_of}

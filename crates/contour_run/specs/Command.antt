@@ -1,8 +1,8 @@
 -- The program's command line: what is declared to `clap`, the texts that it finds, and the request that they give.
 use Rattle.std.specs.Prelude.{ℕ, List, ◌∷◌, Option, Some, codes}
 use Rattle.clap.specs.Words.{App, Row, first_of, new_app}
-use Rattle.higra_cli.specs.Command.{found_by, with_option}
-use Rattle.higra_cli.specs.Request.{◌>>=◌}
+use Rattle.higra_words.specs.Command.{found_by, with_option}
+use Rattle.higra_words.specs.Request.{◌>>=◌}
 use Rattle.contour_run.specs.Request.{OptionTexts, request_by}
 use Rattle.contour_run.specs.declared.request.ContourRequest.{ContourRequest}
 

@@ -2,17 +2,17 @@
 use Rattle.std.specs.Prelude.{◌≡◌, ℕ, List, length, Option, Some, None, Result, Ok, Err, Vec}
 use Rattle.std.specs.declared.alloc.Global.{Global}
 use Rattle.contour_map.specs.Drawn.{AreContoursIn}
-use Rattle.extinction.specs.declared.kind.Kind.{Kind}
+use Rattle.hg_base.specs.declared.kind.Kind.{Kind}
 use Rattle.hg_base.specs.declared.fault.InputFault.{InputFault}
 use Rattle.hg_base.specs.declared.fault.FaultKind.TheVariants.{NotAPicture}
 use Rattle.merge_board.specs.Seats.{ReceiptState}
 use Rattle.tile_plan.specs.Plan.{tile_count}
-use Rattle.higra_cli.specs.Inputs.{graph_of}
-use Rattle.higra_cli.specs.Reports.{cut_tree, plan_of, tile_fault}
-use Rattle.higra_cli.specs.declared.input.Input.{Input}
-use Rattle.higra_cli.specs.declared.input.Input.TheVariants.{Edges, Picture}
-use Rattle.higra_cli.specs.declared.writing.RunFault.{RunFault}
-use Rattle.higra_cli.specs.declared.writing.RunFault.TheVariants as faults
+use Rattle.higra_input.specs.Inputs.{graph_of}
+use Rattle.higra_report.specs.Reports.{cut_tree, plan_of, tile_fault}
+use Rattle.higra_input.specs.declared.input.Input.{Input}
+use Rattle.higra_input.specs.declared.input.Input.TheVariants.{Edges, Picture}
+use Rattle.higra_report.specs.declared.fault.ReportFault.{ReportFault}
+use Rattle.higra_report.specs.declared.fault.ReportFault.TheVariants as faults
 use Rattle.contour_run.specs.declared.request.ContourRequest.{ContourRequest}
 
 -- The bytes are the contours of an input by a kind: those of a picture in the tree of its graph, which is the graph's own
@@ -32,7 +32,7 @@ abbrev pub contours_receipt : ContourRequest → Input → ReceiptState
 contours_receipt request input = record { tiles = tile_count (plan_of request.tile input); workers = request.workers; edges = length (graph_of input).edges }
 
 -- what drawing contours answers: them, or why there are none, or that memory ran out
-abbrev pub AreDrawn : ContourRequest → Input → Result (Vec ℕ Global × ReceiptState) RunFault → Type 0
+abbrev pub AreDrawn : ContourRequest → Input → Result (Vec ℕ Global × ReceiptState) ReportFault → Type 0
 AreDrawn request input (Ok drawn) = (contours_refusal request.tile input ≡ None) × AreContoursOf request.kind input drawn.0.items
 AreDrawn request input (Err (faults.Input fault)) = contours_refusal request.tile input ≡ Some fault
 AreDrawn request input (Err faults.OutOfMemory) = Unit {0}

@@ -1,8 +1,8 @@
 -- Which texts of a command line ask for which contours: the table of the options.
 use Rattle.std.specs.Prelude.{ℕ, List, Option, Some}
-use Rattle.extinction.specs.declared.kind.Kind.{Kind}
-use Rattle.extinction.specs.declared.kind.Kind.TheVariants.{Dynamics}
-use Rattle.higra_cli.specs.Request.{◌>>=◌, cut_tree_named, made_by, tile_by, value_or, workers_by}
+use Rattle.hg_base.specs.declared.kind.Kind.{Kind}
+use Rattle.hg_base.specs.declared.kind.Kind.TheVariants.{Dynamics}
+use Rattle.higra_words.specs.Request.{◌>>=◌, cut_tree_named, made_by, tile_by, value_or, workers_by}
 use Rattle.contour_run.specs.declared.request.ContourRequest.{ContourRequest}
 
 -- the texts of the options that are given

@@ -1,15 +1,20 @@
 -- What a run that draws contours leaves behind, by how it ended.
-use Rattle.std.specs.Prelude.{◌≡◌, ◌⊎◌, ℕ, ◌≤◌, List, Option, Some, None, Result, Ok, Err, MatchResult}
+use Rattle.std.specs.Prelude.{◌≡◌, ◌⊎◌, ℕ, ◌≤◌, List, Option, Some, None, Result, Ok, Err}
 use Rattle.std.specs.Io.KnownBytes.{Appends}
 use Rattle.hg_base.specs.Outside.{Rose, AppendsPrefix}
 use Rattle.hg_base.specs.declared.fault.InputFault.{InputFault}
 use Rattle.merge_board.specs.Seats.{ReceiptState}
-use Rattle.higra_cli.specs.Inputs.{graph_of, input_for}
-use Rattle.higra_cli.specs.Reading.{Told}
-use Rattle.higra_cli.specs.Running.{AreBytesOf, GotInput, IsHierarchy, IsSuccess, status_by}
-use Rattle.higra_cli.specs.declared.input.Input.{Input}
-use Rattle.higra_cli.specs.declared.ending.Status.{Status}
-use Rattle.higra_cli.specs.declared.ending.Status.TheVariants as statuses
+use Rattle.higra_input.specs.Getting.{AreBytesOf, GotInput, TookBy}
+use Rattle.higra_input.specs.Inputs.{graph_of, input_for}
+use Rattle.higra_input.specs.Reading.{Told}
+use Rattle.higra_input.specs.declared.input.Input.{Input}
+use Rattle.higra_report.specs.Theorems.{IsHierarchy}
+use Rattle.higra_report.specs.declared.fault.ReportFault.TheVariants as refusals
+use Rattle.higra_cli.specs.Running.{IsSuccess, status_by}
+use Rattle.higra_cli.specs.declared.fault.WriteFault.{WriteFault}
+use Rattle.higra_cli.specs.declared.fault.WriteFault.TheVariants as writes
+use Rattle.higra_cli.specs.declared.status.Status.{Status}
+use Rattle.higra_cli.specs.declared.status.Status.TheVariants as statuses
 use Rattle.contour_run.specs.Command.{contours_requested}
 use Rattle.contour_run.specs.Drawing.{AreContoursOf, contours_receipt, contours_refusal}
 use Rattle.contour_run.specs.declared.request.ContourRequest.{ContourRequest}
@@ -65,18 +70,19 @@ abbrev pub DrawsWith : List (List ℕ) → Option (List ℕ) → Option (List �
 DrawsWith words old new Done receipt = (draws : Draws words old new Done) × (receipt ≡ contours_receipt draws.request draws.input)
 
 -- how the drawing and the writing of contours left the sink
-abbrev pub EndsWriting : ContourRequest → Input → Told → Told → Result ReceiptState Status → Type 0
+abbrev pub EndsWriting : ContourRequest → Input → Told → Told → Result ReceiptState WriteFault → Type 0
 EndsWriting request input out out' (Ok receipt) = Writes request input (Appends out.bytes out'.bytes) × (receipt ≡ contours_receipt request input) × (out'.faults ≡ out.faults)
-EndsWriting request input out out' (Err (statuses.Input fault)) = (contours_refusal request.tile input ≡ Some fault) × (out'.faults ≡ out.faults)
-EndsWriting request input out out' (Err statuses.WriteFailed) = Writes request input (AppendsPrefix out.bytes out'.bytes) × Rose out.faults out'.faults
-EndsWriting request input out out' (Err statuses.OutOfMemory) = out'.faults ≡ out.faults
-EndsWriting request input out out' (Err (statuses.Success receipt)) = ⊥
-EndsWriting request input out out' (Err statuses.Usage) = ⊥
-EndsWriting request input out out' (Err statuses.ReadFailed) = ⊥
+EndsWriting request input out out' (Err (writes.Report (refusals.Input fault))) = (contours_refusal request.tile input ≡ Some fault) × (out'.faults ≡ out.faults)
+EndsWriting request input out out' (Err (writes.Report refusals.OutOfMemory)) = out'.faults ≡ out.faults
+EndsWriting request input out out' (Err writes.WriteFailed) = Writes request input (AppendsPrefix out.bytes out'.bytes) × Rose out.faults out'.faults
 
 -- the words gave a request, and this is its status
 abbrev pub HasStatus : List (List ℕ) → Option (List ℕ) → Status → Type 0
 HasStatus words left status = (request : ContourRequest) × ((contours_requested words ≡ Some request) × IsFor request left status)
+
+-- the words gave a request, and this much was taken of its source
+abbrev pub HasTaken : List (List ℕ) → Option (List ℕ) → Option (List ℕ) → InputFault → Type 0
+HasTaken words old new fault = (request : ContourRequest) × ((contours_requested words ≡ Some request) × TookBy request.made fault old new)
 
 -- how a run on these words left its source and its sink, by its status
 abbrev pub Ends : List (List ℕ) → Told → Told → Told → Told → Status → Type 0
@@ -85,14 +91,9 @@ Ends words source source' out out' (statuses.Success receipt) =
 Ends words source source' out out' statuses.Usage =
     (contours_requested words ≡ None) × (source'.faults ≡ source.faults) × (out'.faults ≡ out.faults)
 Ends words source source' out out' (statuses.Input fault) =
-    HasStatus words source.bytes (statuses.Input fault) × (source'.faults ≡ source.faults) × (out'.faults ≡ out.faults)
+    HasStatus words source.bytes (statuses.Input fault) × HasTaken words source.bytes source'.bytes fault × (source'.faults ≡ source.faults) × (out'.faults ≡ out.faults)
 Ends words source source' out out' statuses.ReadFailed =
     HasRequest words × Rose source.faults source'.faults × (out'.faults ≡ out.faults)
 Ends words source source' out out' statuses.WriteFailed =
     ((receipt : ReceiptState) × HasStatus words source.bytes (statuses.Success receipt)) × Draws words source.bytes source'.bytes (AppendsPrefix out.bytes out'.bytes) × (source'.faults ≡ source.faults) × Rose out.faults out'.faults
 Ends words source source' out out' statuses.OutOfMemory = out'.faults ≡ out.faults
-
--- the same of what all but the fault line answered: an error is the status
-abbrev pub EndsWork : List (List ℕ) → Told → Told → Told → Told → Result ReceiptState Status → Type 0
-EndsWork words source source' out out' result =
-    MatchResult result (λ receipt. Ends words source source' out out' (statuses.Success receipt)) (Ends words source source' out out')

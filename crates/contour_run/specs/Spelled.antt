@@ -1,6 +1,6 @@
 -- The words that spell the texts of the options.
 use Rattle.std.specs.Prelude.{ℕ, List, ◌++◌, codes}
-use Rattle.higra_cli.specs.Spelled.{option_word}
+use Rattle.higra_words.specs.Spelled.{option_word}
 use Rattle.contour_run.specs.Request.{OptionTexts}
 
 -- the options that are given

@@ -5,7 +5,7 @@ ghost use Rattle.contour_run.specs.Command.{higra_contours, rows_on, texts_in};
 ghost use Rattle.contour_run.specs.Given.{texts_of};
 
 use clap::{ArgMatches, Command};
-use higra_cli::{WordsFault, found_text, matches_by, with_option};
+use higra_words::{WordsFault, found_text, matches_by, with_option};
 use std::alloc::{AllocError, Global};
 
 /// The texts of the options that are given.

@@ -5,10 +5,10 @@ ghost use Rattle.edge_order.specs.Order.{order_of};
 ghost use Rattle.extinction.specs.HierarchicalWatershed.{hierarchical_of};
 ghost use Rattle.tree_laws.specs.Tree.{graph_tree};
 ghost use Rattle.pgm_reader.specs.Grid as grid;
-ghost use Rattle.higra_cli.specs.Inputs.{graph_of};
+ghost use Rattle.higra_input.specs.Inputs.{graph_of};
 ghost use Rattle.graph_hierarchy.specs.Hierarchies.{IsTreeOf};
-ghost use Rattle.higra_cli.specs.Reports.{cut_tree};
-ghost use Rattle.higra_cli.specs.Running.{IsHierarchy};
+ghost use Rattle.higra_report.specs.Reports.{cut_tree};
+ghost use Rattle.higra_report.specs.Theorems.{IsHierarchy};
 ghost use Rattle.contour_run.specs.Drawing.{AreDrawn, contours_receipt};
 ghost use Rattle.contour_run.specs.Running.{CanDraw};
 
@@ -16,8 +16,9 @@ use super::request::ContourRequest;
 use contour_map::draw_contours;
 use edge_order::Order;
 use graph_hierarchy::GraphHierarchy;
-use hg_base::{FaultKind, Gate, Graph, InputFault, OutOfMemory};
-use higra_cli::{Basins, Input, Kind, RunFault, pixels_hierarchy};
+use hg_base::{FaultKind, Gate, Graph, InputFault, Kind, OutOfMemory};
+use higra_input::Input;
+use higra_report::{Basins, ReportFault, pixels_hierarchy};
 use merge_board::Receipt;
 use partition_tree::Tree;
 use pgm_reader::{Picture, graph_of};
@@ -35,14 +36,14 @@ pub fn draw<G: Gate>(
     request: &ContourRequest,
     input: &Input,
     gate: &G,
-) -> Result<(Vec<u8>, Receipt), RunFault>
+) -> Result<(Vec<u8>, Receipt), ReportFault>
     requires { CanDraw request.now }
     ensures drawn { AreDrawn request.now input.now result }
     ensures receipt { IfOk result (λ drawn. drawn.1 ≡ contours_receipt request.now input.now) }
     ensures hierarchy { IfOk result (λ _. IsHierarchy (graph_of input.now)) }
 {
     match input {
-        Input::Edges(_) => Err(RunFault::Input(InputFault {
+        Input::Edges(_) => Err(ReportFault::Input(InputFault {
             kind: FaultKind::NotAPicture,
             at: 0,
             value: 0,
@@ -58,7 +59,7 @@ fn draw_picture<G: Gate>(
     request: &ContourRequest,
     picture: &Picture,
     gate: &G,
-) -> Result<(Vec<u8>, Receipt), RunFault>
+) -> Result<(Vec<u8>, Receipt), ReportFault>
     requires { CanDraw request.now }
     ensures drawn { AreDrawn request.now (Input.Picture picture.now) result }
     ensures receipt { IfOk result (λ drawn. drawn.1 ≡ contours_receipt request.now (Input.Picture picture.now)) }

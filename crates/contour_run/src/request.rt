@@ -1,7 +1,7 @@
 // What the words ask for.
 ghost use Rattle.std.specs.Prelude.{◌≡◌, Some, None, IfOk, IfSome, option_map};
 ghost use Rattle.clap.specs.Words.{found_of, rows_of};
-ghost use Rattle.higra_cli.specs.Running.{CanMake};
+ghost use Rattle.higra_words.specs.Allowed.{CanMake};
 ghost use Rattle.contour_run.specs.Command.{contours_requested, request_in};
 ghost use Rattle.contour_run.specs.Given.{texts_of};
 ghost use Rattle.contour_run.specs.Request.{contour_tree_by, request_by};
@@ -9,7 +9,8 @@ ghost use Rattle.contour_run.specs.Running.{CanDraw};
 
 use super::command::{GivenOptions, matches_on, texts_in};
 use clap::ArgMatches;
-use higra_cli::{Kind, Made, Words, WordsFault, cut_tree_named, made_by, tile_by, workers_by};
+use hg_base::Kind;
+use higra_words::{Made, Words, WordsFault, cut_tree_named, made_by, tile_by, workers_by};
 use std::alloc::Global;
 
 /// The contours that the words ask for.

@@ -1,6 +1,6 @@
 use super::run_contours;
 use hg_base::{MemSink, MemSource, OpenGate, OutOfMemory};
-use higra_cli::Words;
+use higra_words::Words;
 use std::alloc::Global;
 use std::process::Abort;
 use std::test::Fail;

@@ -42,7 +42,7 @@ use Rattle.extinction.specs.Values.{graph_values}
 use Rattle.extinction.specs.Holding.{holds as holding, child, child_holds, both_hold}
 use Rattle.extinction.specs.Persistence.{persistence, persistences_of}
 use Rattle.extinction.specs.HierarchicalWatershed.{by_persistence, persistence_edges, hierarchical_of}
-use Rattle.extinction.specs.declared.kind.Kind.{Kind}
+use Rattle.hg_base.specs.declared.kind.Kind.{Kind}
 use Rattle.extinction.proofs.SideLemmas.{IsSide, AreSides, AreChildrenOf}
 use Rattle.extinction.proofs.TreeFacts.{of-graph, graph-children}
 use Rattle.extinction.proofs.HoldLemmas.{holds-from, holds-to}

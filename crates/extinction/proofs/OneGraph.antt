@@ -9,7 +9,7 @@ use Rattle.extinction.specs.Values.{values_of, AreOf, AreOfOne}
 use Rattle.extinction.specs.Persistence.{persistences, persistences_of}
 use Rattle.extinction.specs.Survivors.{extinctions, extinctions_of}
 use Rattle.extinction.specs.NodeSurvivors.{HasTwoEach}
-use Rattle.extinction.specs.declared.kind.Kind.{Kind}
+use Rattle.hg_base.specs.declared.kind.Kind.{Kind}
 use Rattle.extinction.proofs.TreeFacts.{inner-two}
 
 pub one-two : (t : ParentTree) (a : AttributeLists) (m : LabelledMinima) → AreOfOne t a m → HasTwoEach t

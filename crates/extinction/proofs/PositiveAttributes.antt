@@ -20,8 +20,8 @@ use Rattle.watershed_cut.specs.Plateaus.{IsPlateau}
 use Rattle.partition_tree.proofs.ListTests.{range-from}
 use Rattle.watershed_cut.proofs.PlateauLaws.{leaf-node, root-alone}
 use Rattle.extinction.specs.Values.{graph_values}
-use Rattle.extinction.specs.declared.kind.Kind.{Kind}
-use Rattle.extinction.specs.declared.kind.Kind.TheVariants as kinds
+use Rattle.hg_base.specs.declared.kind.Kind.{Kind}
+use Rattle.hg_base.specs.declared.kind.Kind.TheVariants as kinds
 use Rattle.extinction.proofs.TreeFacts.{of-graph}
 use Rattle.extinction.proofs.LowestHolders.{levelled, IsBottom, bottom-of, bottom-same, labelled-member}
 

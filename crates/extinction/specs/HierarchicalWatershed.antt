@@ -6,7 +6,7 @@ use Rattle.edge_laws.specs.Edges.{ListedEdge, EdgeList, joins}
 use Rattle.edge_laws.specs.Rank.{ranked}
 use Rattle.tree_laws.specs.Tree.{ParentTree, place, tree_of}
 use Rattle.extinction.specs.Persistence.{persistences_of}
-use Rattle.extinction.specs.declared.kind.Kind.{Kind}
+use Rattle.hg_base.specs.declared.kind.Kind.{Kind}
 
 -- the j-th comes before the i-th: it has the lesser persistence, or the same and the lesser place
 abbrev pub comes_sooner : List ℕ → ℕ → ℕ → Bool

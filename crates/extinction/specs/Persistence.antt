@@ -6,7 +6,7 @@ use Rattle.tree_laws.specs.Tree.{ParentTree, graph_tree}
 use Rattle.watershed_cut.specs.MinimumLabels.{LabelledMinima, minima_of}
 use Rattle.extinction.specs.Values.{graph_values}
 use Rattle.extinction.specs.Holding.{child, both_hold}
-use Rattle.extinction.specs.declared.kind.Kind.{Kind}
+use Rattle.hg_base.specs.declared.kind.Kind.{Kind}
 
 -- the persistence of inner node i: the lesser attribute of its two children where both hold a minimum, else 0
 abbrev pub persistence : ParentTree → LabelledMinima → List ℕ → ℕ → ℕ

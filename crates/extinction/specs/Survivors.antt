@@ -7,7 +7,7 @@ use Rattle.tree_laws.specs.Tree.{ParentTree, parent, graph_tree}
 use Rattle.watershed_cut.specs.MinimumLabels.{LabelledMinima, minima_of}
 use Rattle.extinction.specs.Values.{graph_values}
 use Rattle.extinction.specs.Holding.{least_held, child, child_holds, both_hold}
-use Rattle.extinction.specs.declared.kind.Kind.{Kind}
+use Rattle.hg_base.specs.declared.kind.Kind.{Kind}
 
 -- node a dies beside node b: it has the lesser attribute, or the same and the greater survivor
 abbrev pub dies : List ℕ → List ℕ → ℕ → ℕ → Bool

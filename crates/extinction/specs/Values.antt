@@ -4,8 +4,8 @@ use Rattle.hg_base.specs.Graph.{WeightedGraph, IsGraph}
 use Rattle.tree_laws.specs.Tree.{ParentTree, graph_tree}
 use Rattle.attributes.specs.Attributes.{AttributeLists, attributes_of}
 use Rattle.watershed_cut.specs.MinimumLabels.{LabelledMinima, minima_of}
-use Rattle.extinction.specs.declared.kind.Kind.{Kind}
-use Rattle.extinction.specs.declared.kind.Kind.TheVariants as kinds
+use Rattle.hg_base.specs.declared.kind.Kind.{Kind}
+use Rattle.hg_base.specs.declared.kind.Kind.TheVariants as kinds
 
 -- the attributes of this kind, by number of node
 abbrev pub values_of : Kind → AttributeLists → List ℕ

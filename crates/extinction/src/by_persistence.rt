@@ -9,10 +9,9 @@ ghost use Rattle.watershed_cut.specs.Watershed.{tree_label};
 ghost use Rattle.extinction.specs.HierarchicalWatershed.{hierarchical_of};
 ghost use Rattle.extinction.specs.PersistenceOrder.{AreSorted, ranked_of, IsListOf};
 
-use crate::kind::Kind;
 use crate::persist::persistence;
 use attributes::Attributes;
-use hg_base::{Graph, OutOfMemory};
+use hg_base::{Graph, Kind, OutOfMemory};
 use partition_tree::{Ranked, Tree};
 use std::alloc::{AllocError, Global};
 use watershed_cut::Minima;

@@ -4,11 +4,11 @@ ghost use Rattle.extinction.specs.Values.{values_of, AreOf, AreOfOne};
 ghost use Rattle.extinction.specs.Survivors.{extinctions_of};
 ghost use Rattle.extinction.specs.NodeSurvivors.{dying_after, AreSurvivors, AreRootsFrom, AreDeathsFrom};
 
-use crate::kind::Kind;
 use crate::pairs::children;
 use crate::survive::{Survivors, dies};
+use crate::values::value_by;
 use attributes::Attributes;
-use hg_base::OutOfMemory;
+use hg_base::{Kind, OutOfMemory};
 use partition_tree::Tree;
 use std::alloc::{AllocError, Global};
 use watershed_cut::Minima;
@@ -64,7 +64,7 @@ fn note_roots(
     for i in (0..tree.nodes()).rev() {
         let label = survivors.labels[i as usize];
         if label != 0 && tree.parent(i) == i {
-            values[label as usize - 1] = kind.value(attributes, i);
+            values[label as usize - 1] = value_by(kind, attributes, i);
         }
     }
 }
@@ -88,7 +88,7 @@ fn note_deaths(
         let (a, b) = children(tree, &survivors.pairs, i);
         if let Some(child) = dying(attributes, kind, &survivors.labels, a, b) {
             let label = survivors.labels[child as usize];
-            values[label as usize - 1] = kind.value(attributes, child);
+            values[label as usize - 1] = value_by(kind, attributes, child);
         }
     }
 }

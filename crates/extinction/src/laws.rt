@@ -8,7 +8,7 @@ ghost use Rattle.partition_tree.specs.TreeLists.{IsWellFormed};
 ghost use Rattle.partition_tree.specs.Children.{child_count, IsChildAt};
 ghost use Rattle.watershed_cut.specs.MinimumLabels.{LabelledMinima, minima_of};
 ghost use Rattle.watershed_cut.specs.Watershed.{tree_label};
-ghost use Rattle.extinction.specs.declared.kind.Kind.{Kind};
+ghost use Rattle.hg_base.specs.declared.kind.Kind.{Kind};
 ghost use Rattle.extinction.specs.Holding.{HoldsMinimum, holds, least_held, child, child_holds, both_hold};
 ghost use Rattle.extinction.specs.Survivors.{dying, living, survivor, survivors};
 ghost use Rattle.extinction.specs.HierarchicalWatershed.{hierarchical_of};

@@ -3,17 +3,17 @@
 
 mod by_persistence;
 mod deaths;
-mod kind;
 mod laws;
 mod lowest;
 mod pairs;
 mod persist;
 mod report;
 mod survive;
+mod values;
 
 pub use by_persistence::hierarchical;
 pub use deaths::extinctions;
-pub use kind::Kind;
+pub use hg_base::Kind;
 pub use laws::{
     children_are_two, hierarchical_is_well_formed, holding_by_paths, level_zero_is_the_watershed,
     survivors_live_on,

@@ -4,11 +4,11 @@ ghost use Rattle.extinction.specs.Values.{values_of, AreOf, AreOfOne};
 ghost use Rattle.extinction.specs.Persistence.{persistences_of};
 ghost use Rattle.extinction.specs.NodeSurvivors.{value_after};
 
-use crate::kind::Kind;
 use crate::pairs::children;
 use crate::survive::Survivors;
+use crate::values::value_by;
 use attributes::Attributes;
-use hg_base::OutOfMemory;
+use hg_base::{Kind, OutOfMemory};
 use partition_tree::Tree;
 use std::alloc::{AllocError, Global};
 use watershed_cut::Minima;
@@ -59,5 +59,5 @@ fn value(attributes: &Attributes, kind: Kind, labels: &[u32], a: u32, b: u32) ->
     if labels[a as usize] == 0 || labels[b as usize] == 0 {
         return 0;
     }
-    kind.value(attributes, a).min(kind.value(attributes, b))
+    value_by(kind, attributes, a).min(value_by(kind, attributes, b))
 }

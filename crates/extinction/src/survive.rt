@@ -3,10 +3,11 @@ ghost use Rattle.extinction.specs.Values.{values_of, AreOfOne};
 ghost use Rattle.extinction.specs.Survivors.{dies};
 ghost use Rattle.extinction.specs.NodeSurvivors.{label_after, AreSurvivors};
 
-use crate::kind::Kind;
 use crate::lowest::own_labels;
 use crate::pairs::{child_pairs, children};
+use crate::values::value_by;
 use attributes::Attributes;
+use hg_base::Kind;
 use partition_tree::Tree;
 use std::alloc::{AllocError, Global};
 use watershed_cut::Minima;
@@ -72,6 +73,6 @@ pub(crate) fn dies(attributes: &Attributes, kind: Kind, labels: &[u32], a: u32, 
     requires second { b < length labels.now }
     ensures { result ≡ dies (values_of kind attributes.now) labels.now a b }
 {
-    let (first, second) = (kind.value(attributes, a), kind.value(attributes, b));
+    let (first, second) = (value_by(kind, attributes, a), value_by(kind, attributes, b));
     first < second || first == second && labels[b as usize] < labels[a as usize]
 }

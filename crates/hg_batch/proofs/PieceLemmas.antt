@@ -10,7 +10,7 @@ use Rattle.std.proofs.lemmas.List.Quantifiers.{position-Some}
 use Rattle.std.proofs.lemmas.List.Sums.{position_or_len_is, sum_by-cons}
 use Rattle.memchr.specs.Find.{IsFirstByte, is_byte}
 use Rattle.hg_base.specs.declared.fault.InputFault.{InputFault}
-use Rattle.higra_cli.specs.declared.input.Input.{Input}
+use Rattle.higra_input.specs.declared.input.Input.{Input}
 use Rattle.hg_batch.specs.Cutting.{reads, values}
 use Rattle.hg_batch.specs.Pieces.{all_vertices, led_by, pieces, reading, readings, vertices}
 use Rattle.hg_batch.specs.declared.cutting.Piece.{Piece}

@@ -3,7 +3,7 @@ use Rattle.std.proofs.Common.{◌≡◌, ℕ, ◌-◌, ◌≤◌, List, ◌++◌
 use Rattle.std.proofs.lemmas.List.{length-take-le}
 use Rattle.std.proofs.KnownBytes.{Consumes-trans}
 use Rattle.std.specs.Io.KnownBytes.{Consumes}
-use Rattle.higra_cli.specs.Reading.{GaveAtMost, GaveTooMuch}
+use Rattle.higra_input.specs.Reading.{GaveAtMost, GaveTooMuch}
 
 -- the piece has no more bytes than are asked for
 pub gave_at_most : (old middle new : Option (List ℕ)) (bytes buffer : List ℕ) (fed count : ℕ) → Consumes old middle bytes → Consumes middle new (take count buffer) → count ≤ length buffer → fed ≡ length bytes → fed ≤ 134217728 → count ≤ 134217729 - fed

@@ -7,13 +7,13 @@ use Rattle.std.specs.List.{concat}
 use Rattle.hg_base.specs.Outside.{Rose}
 use Rattle.hg_base.specs.declared.fault.InputFault.{InputFault}
 use Rattle.hg_base.specs.declared.fault.FaultKind.TheVariants.{TooManyJobs, TooManyVertices}
-use Rattle.higra_cli.proofs.ReadingLemmas.{gave_all, gave_some}
-use Rattle.higra_cli.specs.Inputs.{too_long}
-use Rattle.higra_cli.specs.Reading.{Told, GaveAll, GaveTooMuch}
-use Rattle.higra_cli.specs.Reports.{◌before◌}
-use Rattle.higra_cli.specs.Running.{StoodStill}
-use Rattle.higra_cli.specs.declared.input.Input.{Input}
-use Rattle.higra_cli.specs.declared.request.Request.{Request}
+use Rattle.higra_input.proofs.ReadingLemmas.{gave_all, gave_some}
+use Rattle.higra_input.specs.Inputs.{too_long}
+use Rattle.higra_input.specs.Reading.{Told, GaveAll, GaveTooMuch}
+use Rattle.higra_report.specs.Reports.{◌before◌}
+use Rattle.higra_input.specs.Getting.{StoodStill}
+use Rattle.higra_input.specs.declared.input.Input.{Input}
+use Rattle.higra_words.specs.declared.request.Request.{Request}
 use Rattle.hg_batch.proofs.PieceLemmas.{count_pieces}
 use Rattle.hg_batch.proofs.TextLemmas.{length-texts_from, texts_by_one}
 use Rattle.hg_batch.specs.Batch.{batch_fault, batch_text, job_fault, texts_from, vertex_fault}

@@ -5,9 +5,9 @@ use Rattle.std.specs.declared.alloc.Global.{Global}
 use Rattle.std.proofs.lemmas.List.{length-map}
 use Rattle.std.proofs.lemmas.Option.{slice_get_read}
 use Rattle.hg_base.specs.declared.fault.InputFault.{InputFault}
-use Rattle.higra_cli.specs.Reports.{refusal, report_of}
-use Rattle.higra_cli.specs.declared.input.Input.{Input}
-use Rattle.higra_cli.specs.declared.request.Request.{Request}
+use Rattle.higra_report.specs.Reports.{refusal, report_of}
+use Rattle.higra_input.specs.declared.input.Input.{Input}
+use Rattle.higra_words.specs.declared.request.Request.{Request}
 use Rattle.hg_batch.specs.Batch.{job_text, texts_from}
 use Rattle.hg_batch.specs.Cutting.{reads, values}
 use Rattle.hg_batch.specs.Jobs.{BatchState}

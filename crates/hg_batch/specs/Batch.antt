@@ -6,9 +6,9 @@ use Rattle.hg_base.specs.Text.{headed_line}
 use Rattle.hg_base.specs.declared.fault.InputFault.{InputFault}
 use Rattle.hg_base.specs.declared.fault.FaultKind.TheVariants.{TooManyJobs, TooManyVertices}
 use Rattle.higra_cli.specs.Ending.{name_of}
-use Rattle.higra_cli.specs.Reports.{refusal, report_of, ◌before◌}
-use Rattle.higra_cli.specs.declared.input.Input.{Input}
-use Rattle.higra_cli.specs.declared.request.Request.{Request}
+use Rattle.higra_report.specs.Reports.{refusal, report_of, ◌before◌}
+use Rattle.higra_input.specs.declared.input.Input.{Input}
+use Rattle.higra_words.specs.declared.request.Request.{Request}
 use Rattle.hg_batch.specs.Pieces.{pieces, readings, all_vertices}
 
 -- the line of job i that was done, and its report

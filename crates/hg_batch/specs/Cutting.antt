@@ -1,7 +1,7 @@
 -- What the pieces that were read hold.
 use Rattle.std.specs.Prelude.{List, map, Result, Ok, Err}
 use Rattle.hg_base.specs.declared.fault.InputFault.{InputFault}
-use Rattle.higra_cli.specs.declared.input.Input.{Input}
+use Rattle.higra_input.specs.declared.input.Input.{Input}
 use Rattle.hg_batch.specs.declared.cutting.Piece.{Piece}
 use Rattle.hg_batch.specs.declared.cutting.Piece.TheVariants.{Read, Fault}
 

@@ -1,7 +1,7 @@
 -- How a batch ends: the codes of the statuses, and the line that says why it was refused.
 use Rattle.std.specs.Prelude.{ℕ, List, []}
 use Rattle.higra_cli.specs.Ending.{fault_line}
-use Rattle.higra_cli.specs.declared.ending.Status.TheVariants as runs
+use Rattle.higra_cli.specs.declared.status.Status.TheVariants as runs
 use Rattle.hg_batch.specs.declared.ending.BatchStatus.{BatchStatus}
 use Rattle.hg_batch.specs.declared.ending.BatchStatus.TheVariants as statuses
 

@@ -2,8 +2,8 @@
 use Rattle.std.specs.Prelude.{◌≡◌, ℕ, List, Result, Ok, Err, Vec}
 use Rattle.std.specs.declared.alloc.Global.{Global}
 use Rattle.hg_base.specs.Outside.{Rose}
-use Rattle.higra_cli.specs.Inputs.{too_long}
-use Rattle.higra_cli.specs.Reading.{Told, GaveAll, GaveTooMuch}
+use Rattle.higra_input.specs.Inputs.{too_long}
+use Rattle.higra_input.specs.Reading.{Told, GaveAll, GaveTooMuch}
 use Rattle.hg_batch.specs.declared.ending.BatchStatus.{BatchStatus}
 use Rattle.hg_batch.specs.declared.ending.BatchStatus.TheVariants as statuses
 

@@ -1,6 +1,6 @@
 -- What the fields of a batch hold.
 use Rattle.std.specs.Prelude.{◌≤◌, length}
-use Rattle.higra_cli.specs.Running.{CanReport}
+use Rattle.higra_words.specs.Allowed.{CanReport}
 use Rattle.hg_batch.specs.Cutting.{values}
 use Rattle.hg_batch.specs.Jobs.{BatchState}
 use Rattle.hg_batch.specs.declared.batch.Batch.TheInside.{Inside}

@@ -2,9 +2,9 @@
 use Rattle.std.specs.Prelude.{◌==◌, ℕ, ◌+◌, List, [], ◌∷◌, if◌then◌else◌, map, Result, Ok, Err}
 use Rattle.hg_base.specs.declared.fault.InputFault.{InputFault}
 use Rattle.graph_reader.specs.EdgeList.{edge_list}
-use Rattle.higra_cli.specs.Inputs.{edges_as_input}
-use Rattle.higra_cli.specs.declared.input.Input.{Input}
-use Rattle.higra_cli.specs.declared.input.Input.TheVariants.{Edges, Picture}
+use Rattle.higra_input.specs.Inputs.{edges_as_input}
+use Rattle.higra_input.specs.declared.input.Input.{Input}
+use Rattle.higra_input.specs.declared.input.Input.TheVariants.{Edges, Picture}
 
 -- the pieces with one more byte in front of the first
 abbrev pub led_by : ℕ → List (List ℕ) → List (List ℕ)

@@ -4,13 +4,13 @@ use Rattle.std.specs.declared.alloc.Global.{Global}
 use Rattle.std.specs.Io.KnownBytes.{Appends}
 use Rattle.hg_base.specs.Outside.{Rose, AppendsPrefix}
 use Rattle.hg_base.specs.declared.fault.InputFault.{InputFault}
-use Rattle.higra_cli.specs.Command.{requested}
-use Rattle.higra_cli.specs.Inputs.{too_long}
-use Rattle.higra_cli.specs.Reading.{Told, GaveAll, GaveTooMuch}
-use Rattle.higra_cli.specs.declared.request.Request.{Request}
-use Rattle.higra_cli.specs.declared.request.Form.{Form}
-use Rattle.higra_cli.specs.declared.request.Form.TheVariants as forms
-use Rattle.higra_cli.specs.declared.request.Made.{Made}
+use Rattle.higra_words.specs.Command.{requested}
+use Rattle.higra_input.specs.Inputs.{too_long}
+use Rattle.higra_input.specs.Reading.{Told, GaveAll, GaveTooMuch}
+use Rattle.higra_words.specs.declared.request.Request.{Request}
+use Rattle.higra_words.specs.declared.request.Form.{Form}
+use Rattle.higra_words.specs.declared.request.Form.TheVariants as forms
+use Rattle.higra_words.specs.declared.request.Made.{Made}
 use Rattle.hg_batch.specs.Batch.{batch_fault, batch_text}
 use Rattle.hg_batch.specs.declared.ending.BatchStatus.{BatchStatus}
 use Rattle.hg_batch.specs.declared.ending.BatchStatus.TheVariants as statuses

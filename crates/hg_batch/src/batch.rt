@@ -2,7 +2,7 @@
 use super::cutting::Piece;
 use super::texts::text_of;
 use hg_base::OutOfMemory;
-use higra_cli::Request;
+use higra_words::Request;
 use job_shift::Job;
 use std::alloc::Global;
 use std::marker::Model;

@@ -6,7 +6,7 @@ ghost use Rattle.hg_batch.specs.Cutting.{reads, values};
 
 use graph_reader::read_graph;
 use hg_base::{InputFault, OutOfMemory, ReadError};
-use higra_cli::Input;
+use higra_input::Input;
 use memchr::{memchr, memrchr};
 use std::alloc::Global;
 use std::thread::{Threads, join};

@@ -2,7 +2,7 @@
 ghost use Rattle.std.specs.Prelude.{◌≡◌, ◌<◌, ◌≤◌, length, take, IfOk};
 ghost use Rattle.std.specs.Io.KnownBytes.{ReadConsumes};
 ghost use Rattle.hg_base.specs.Outside.{HasCause};
-ghost use Rattle.higra_cli.specs.Reading.{GaveAtMost, told};
+ghost use Rattle.higra_input.specs.Reading.{GaveAtMost, told};
 ghost use Rattle.hg_batch.specs.Getting.{Gets};
 
 use super::ending::BatchStatus;

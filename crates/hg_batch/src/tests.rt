@@ -1,6 +1,6 @@
 use super::run_batch;
 use hg_base::{MemSink, MemSource, OutOfMemory};
-use higra_cli::Words;
+use higra_words::Words;
 use std::alloc::{AllocError, Global};
 use std::process::Abort;
 use std::test::Fail;

@@ -1,12 +1,14 @@
 // The text of a job.
 ghost use Rattle.std.specs.Prelude.{◌≡◌, ◌++◌, decimal, IfOk, OnOk};
-ghost use Rattle.higra_cli.specs.Running.{CanReport};
+ghost use Rattle.higra_words.specs.Allowed.{CanReport};
 ghost use Rattle.hg_batch.specs.Batch.{done_text, failed_text, job_text};
 ghost use Rattle.hg_batch.specs.Cutting.{reads};
 
 use super::cutting::Piece;
 use hg_base::{InputFault, OpenGate, OutOfMemory, push_headed_line};
-use higra_cli::{Request, RunFault, kind_name, report};
+use higra_cli::kind_name;
+use higra_report::{ReportFault, report};
+use higra_words::Request;
 use itoa::Buffer;
 use std::alloc::{AllocError, Global};
 use std::thread::Threads;
@@ -29,8 +31,8 @@ pub(crate) fn text_of(
     };
     match report(rt, alloc, request, input, &OpenGate) {
         Ok((bytes, _)) => done(alloc, job, &bytes),
-        Err(RunFault::Input(fault)) => failed(alloc, job, &fault),
-        Err(RunFault::OutOfMemory) => Err(OutOfMemory),
+        Err(ReportFault::Input(fault)) => failed(alloc, job, &fault),
+        Err(ReportFault::OutOfMemory) => Err(OutOfMemory),
     }
 }
 

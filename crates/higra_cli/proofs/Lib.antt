@@ -1,17 +1,2 @@
-pub mod AltitudeLemmas
-pub mod CommandLemmas
-pub mod DrawingLemmas
 pub mod LineLemmas
-pub mod NumberLemmas
-pub mod OrderedLemmas
-pub mod PictureFaults
-pub mod PlanningLemmas
-pub mod ReadingLemmas
 pub mod RunningLemmas
-pub mod SpelledLemmas
-pub mod SummaryLemmas
-pub mod HierarchyLemmas
-pub mod ComponentLemmas
-pub mod EdgeListFaults
-pub mod EnergyLemmas
-pub mod CutLemmas

@@ -1,22 +1,32 @@
 -- What the ends of a run come to.
-use Rattle.std.proofs.Common.{◌≡◌, ◌≢◌, inl, inr, ℕ, ◌≤◌, List, length, take_all, ◌⊎◌, Option, Some, None, Result, Ok, Err, OnOk, OnErr, refl, sym, ap, ◌∙◌, subst, arith}
+use Rattle.std.proofs.Common.{◌≡◌, ◌≢◌, inl, inr, ℕ, ◌≤◌, List, [], length, take_all, ◌⊎◌, Option, Some, None, Result, Ok, Err, OnOk, OnErr, refl, sym, ap, ◌∙◌, subst, arith}
+use Rattle.std.proofs.KnownBytes.{Appends-nil}
 use Rattle.std.specs.Io.KnownBytes.{Appends}
-use Rattle.hg_base.specs.Outside.{AppendsPrefix, Rose}
-use Rattle.hg_base.specs.declared.fault.FaultKind.TheVariants.{TooLong}
+use Rattle.hg_base.specs.Outside.{AppendsPrefix}
 use Rattle.hg_base.specs.declared.fault.InputFault.{InputFault}
 use Rattle.merge_board.specs.Seats.{ReceiptState}
-use Rattle.higra_cli.proofs.PictureFaults.{refusal-other}
-use Rattle.higra_cli.proofs.ReadingLemmas.{AreRead-all, gave_nothing, gave_once}
-use Rattle.higra_cli.specs.Command.{requested}
-use Rattle.higra_cli.specs.Inputs.{graph_of, input_for, too_long}
-use Rattle.higra_cli.specs.Reading.{GaveTooMuch, Told}
-use Rattle.higra_cli.specs.Reports.{component_side, receipt_of, refusal, report_of}
-use Rattle.higra_cli.specs.Running.{AreBytesOf, Ends, EndsWork, EndsWriting, GotInput, HasComponents, HasStatus, IsAnswerTo, IsFor, IsHierarchy, Reports, ReportsWith, StoodStill, StopsGetting, TookBy, Writes, answer_of, status_by, status_for}
-use Rattle.higra_cli.specs.declared.input.Input.{Input}
-use Rattle.higra_cli.specs.declared.request.Made.{Made}
-use Rattle.higra_cli.specs.declared.request.Request.{Request}
-use Rattle.higra_cli.specs.declared.ending.Status.{Status}
-use Rattle.higra_cli.specs.declared.ending.Status.TheVariants as statuses
+use Rattle.higra_words.specs.Command.{requested}
+use Rattle.higra_words.specs.declared.request.Made.{Made}
+use Rattle.higra_words.specs.declared.request.Request.{Request}
+use Rattle.higra_input.proofs.GettingLemmas.{TookBy-got, TookBy-stopped, got_short, input_for-got, risen, took_long}
+use Rattle.higra_input.proofs.ReadingLemmas.{gave_nothing}
+use Rattle.higra_input.specs.Getting.{AreBytesOf, GotInput, StoodStill, StopsGetting, TookBy}
+use Rattle.higra_input.specs.Inputs.{graph_of, input_for, too_long}
+use Rattle.higra_input.specs.Reading.{GaveTooMuch, Told}
+use Rattle.higra_input.specs.declared.fault.ReadFault.{ReadFault}
+use Rattle.higra_input.specs.declared.fault.ReadFault.TheVariants as reads
+use Rattle.higra_input.specs.declared.input.Input.{Input}
+use Rattle.higra_report.proofs.RefusalLemmas.{refusal-other}
+use Rattle.higra_report.specs.Reports.{IsReportIn, component_side, receipt_of, refusal, report_of}
+use Rattle.higra_report.specs.Theorems.{HasComponents, IsHierarchy}
+use Rattle.higra_report.specs.declared.fault.ReportFault.{ReportFault}
+use Rattle.higra_report.specs.declared.fault.ReportFault.TheVariants as refusals
+use Rattle.higra_cli.specs.Ending.{status_of_read, status_of_write}
+use Rattle.higra_cli.specs.Running.{Ends, EndsWriting, HasStatus, IsAnswerTo, IsFor, Reports, ReportsWith, Writes, answer_of, status_by, status_for}
+use Rattle.higra_cli.specs.declared.fault.WriteFault.{WriteFault}
+use Rattle.higra_cli.specs.declared.fault.WriteFault.TheVariants as writes
+use Rattle.higra_cli.specs.declared.status.Status.{Status}
+use Rattle.higra_cli.specs.declared.status.Status.TheVariants as statuses
 
 -- all of the bytes are a prefix of them
 pub AppendsPrefix-whole : (old new : Option (List ℕ)) (bytes : List ℕ) → Appends old new bytes → AppendsPrefix old new bytes
@@ -24,15 +34,14 @@ AppendsPrefix-whole old new bytes all =
     let some : length bytes ≤ length bytes = omega arith in
     (length bytes, some, subst (λ (bs : List ℕ). Appends old new bs) (sym (take_all (length bytes) bytes some)) all)
 
+-- where nothing was written, there is nothing to append
+pub nothing_written : (old : Option (List ℕ)) (bytes : List ℕ) → bytes ≡ [] → Appends old old bytes
+nothing_written old bytes none = subst (λ (bs : List ℕ). Appends old old bs) (sym none) (Appends-nil old)
+
 -- what a write appended, whether or not it failed
 pub AppendsPrefix-either : {T E : Type 0} (r : Result T E) (old new : Option (List ℕ)) (bytes line : List ℕ) → bytes ≡ line → OnOk r (Appends old new bytes) → OnErr r (AppendsPrefix old new bytes) → AppendsPrefix old new line
 AppendsPrefix-either (Ok x) old new bytes line same all part = subst (λ (bs : List ℕ). AppendsPrefix old new bs) same (AppendsPrefix-whole old new bytes all)
 AppendsPrefix-either (Err e) old new bytes line same all part = subst (λ (bs : List ℕ). AppendsPrefix old new bs) same part
-
--- the input that a request got is the input of the request
-pub input_for-got : (m : Option Made) (old new : Option (List ℕ)) (input : Input) → GotInput m old new input → (bytes : List ℕ) → AreBytesOf m old bytes → input_for m bytes ≡ Ok input
-input_for-got (Some m) old new input got bytes are = ap Ok (sym got.1)
-input_for-got None old new input got bytes are = AreRead-all old new got.0 (Ok input) got.1.0 got.1.1 bytes are
 
 -- so its status is that of the input
 IsFor-got : (request : Request) (old new : Option (List ℕ)) (input : Input) → GotInput request.made old new input → IsFor request old (status_by (receipt_of request input) (refusal request input))
@@ -40,37 +49,37 @@ unfolding answer_of
 IsFor-got request old new input got bytes are = ap (status_for request) (input_for-got request.made old new input got bytes are)
 
 -- a fault of what was read is the status
-IsFor-stopped : (request : Request) (m : Option Made) (old new : Told) (fault : InputFault) → request.made ≡ m → StopsGetting m old new (statuses.Input fault) → IsFor request old.bytes (statuses.Input fault)
+IsFor-stopped : (request : Request) (m : Option Made) (old new : Told) (fault : InputFault) → request.made ≡ m → StopsGetting m old new (reads.Input fault) → IsFor request old.bytes (statuses.Input fault)
 unfolding answer_of
 IsFor-stopped request (Some m) old new fault is stopped bytes are = cc
 IsFor-stopped request None old new fault is stopped bytes are =
     let none : AreBytesOf None old.bytes bytes = subst (λ (o : Option Made). AreBytesOf o old.bytes bytes) is are in
     ap (λ (o : Option Made). status_for request (input_for o bytes)) is ∙ ap (status_for request) (stopped.1 bytes none)
 
--- so much was taken for a fault of what was read
-TookBy-stopped : (m : Option Made) (old new : Told) (fault : InputFault) → StopsGetting m old new (statuses.Input fault) → TookBy m fault old.bytes new.bytes
-TookBy-stopped (Some m) old new fault stopped = cc
-TookBy-stopped None old new fault stopped = stopped.2
-
--- and for one of an input that was got
-TookBy-got : (m : Option Made) (old new : Option (List ℕ)) (input : Input) (fault : InputFault) → GotInput m old new input → fault.kind ≢ TooLong → TookBy m fault old new
-TookBy-got (Some m) old new input fault got other = got.0
-TookBy-got None old new input fault got other = inr (other, (got.0, got.1.0))
-
 -- what ended the getting of the input ends the run
-Ends-by : (words : List (List ℕ)) (request : Request) (m : Option Made) (old new out : Told) (status : Status) → requested words ≡ Some request → request.made ≡ m → StopsGetting m old new status → Ends words old new out out status
-Ends-by words request (Some m) old new out status asked is stopped = subst (λ (s : Status). Ends words old new out out s) (sym stopped) refl
-Ends-by words request None old new out (statuses.Input fault) asked is stopped =
+Ends-by : (words : List (List ℕ)) (request : Request) (m : Option Made) (old new out : Told) (fault : ReadFault) → requested words ≡ Some request → request.made ≡ m → StopsGetting m old new fault → Ends words old new out out (status_of_read fault)
+Ends-by words request (Some m) old new out fault asked is stopped = subst (λ (f : ReadFault). Ends words old new out out (status_of_read f)) (sym stopped) refl
+Ends-by words request None old new out (reads.Input fault) asked is stopped =
     let took : TookBy request.made fault old.bytes new.bytes = subst (λ (m : Option Made). TookBy m fault old.bytes new.bytes) (sym is) (TookBy-stopped None old new fault stopped) in
     ((request, (asked, IsFor-stopped request None old new fault is stopped)), (request, (asked, took)), stopped.0, refl)
-Ends-by words request None old new out statuses.ReadFailed asked is stopped = ((request, asked), stopped, refl)
-Ends-by words request None old new out statuses.OutOfMemory asked is stopped = refl
-Ends-by words request None old new out (statuses.Success receipt) asked is stopped = absurd stopped
-Ends-by words request None old new out statuses.Usage asked is stopped = absurd stopped
-Ends-by words request None old new out statuses.WriteFailed asked is stopped = absurd stopped
+Ends-by words request None old new out reads.ReadFailed asked is stopped = ((request, asked), stopped, refl)
+Ends-by words request None old new out reads.OutOfMemory asked is stopped = refl
 
-pub Ends-stopped : (words : List (List ℕ)) (request : Request) (old new out : Told) (status : Status) → requested words ≡ Some request → StopsGetting request.made old new status → Ends words old new out out status
-Ends-stopped words request old new out status asked stopped = Ends-by words request request.made old new out status asked refl stopped
+pub Ends-stopped : (words : List (List ℕ)) (request : Request) (old new out : Told) (fault : ReadFault) (status : Status) → status ≡ status_of_read fault → requested words ≡ Some request → StopsGetting request.made old new fault → Ends words old new out out status
+Ends-stopped words request old new out fault status is asked stopped =
+    subst (λ (s : Status). Ends words old new out out s) (sym is) (Ends-by words request request.made old new out fault asked refl stopped)
+
+-- a fault of reading isn't that the words ask for nothing
+pub read_not_usage : (fault : ReadFault) → status_of_read fault ≢ statuses.Usage
+read_not_usage (reads.Input fault) = λ is. cc
+read_not_usage reads.ReadFailed = λ is. cc
+read_not_usage reads.OutOfMemory = λ is. cc
+
+-- nor is one of writing
+pub write_not_usage : (fault : WriteFault) → status_of_write fault ≢ statuses.Usage
+write_not_usage (writes.Report (refusals.Input fault)) = λ is. cc
+write_not_usage (writes.Report refusals.OutOfMemory) = λ is. cc
+write_not_usage writes.WriteFailed = λ is. cc
 
 -- the input is accepted
 HasStatus-success : (words : List (List ℕ)) (request : Request) (input : Input) (old new : Option (List ℕ)) → requested words ≡ Some request → GotInput request.made old new input → refusal request input ≡ None → HasStatus words old (statuses.Success (receipt_of request input))
@@ -95,24 +104,42 @@ pub reports_written : (request : Request) (input : Input) (Done : List ℕ → T
     → HasComponents (component_side request.report) input → Writes request input Done
 reports_written request input Done bytes accepted are done hierarchy components = record { accepted = accepted; done = subst Done are done; hierarchy = hierarchy; components = components }
 
--- how the writing of the report ended the run
-pub Ends-written : (words : List (List ℕ)) (request : Request) (input : Input) (old new out out' : Told) (result : Result ReceiptState Status) → requested words ≡ Some request → new.faults ≡ old.faults → GotInput request.made old.bytes new.bytes input
-    → EndsWriting request input out out' result → EndsWork words old new out out' result
+-- where no report was made, none was written
+pub none_made : (request : Request) (input : Input) (out out' : Told) (fault : ReportFault) → IsReportIn request.form request.tile request.report input (Err fault) → out'.faults ≡ out.faults → EndsWriting request input out out' (Err (writes.Report fault))
+unfolding refusal
+none_made request input out out' (refusals.Input fault) is quiet = (is, quiet)
+none_made request input out out' refusals.OutOfMemory is quiet = quiet
+
+-- the report was written
+pub Ends-written : (words : List (List ℕ)) (request : Request) (input : Input) (old new out out' : Told) (receipt : ReceiptState) → requested words ≡ Some request → new.faults ≡ old.faults → GotInput request.made old.bytes new.bytes input
+    → EndsWriting request input out out' (Ok receipt) → Ends words old new out out' (statuses.Success receipt)
 unfolding Reports-done
-Ends-written words request input old new out out' (Ok receipt) asked quiet got ends = (
+Ends-written words request input old new out out' receipt asked quiet got ends = (
   subst (λ (r : ReceiptState). HasStatus words old.bytes (statuses.Success r)) (sym ends.1) (HasStatus-success words request input old.bytes new.bytes asked got ends.0.accepted),
   (Reports-done words request input old.bytes new.bytes (Appends out.bytes out'.bytes) asked got ends.0, ends.1),
   quiet,
   ends.2,
 )
-Ends-written words request input old new out out' (Err statuses.WriteFailed) asked quiet got ends =
+
+-- or it wasn't
+Ends-failed : (words : List (List ℕ)) (request : Request) (input : Input) (old new out out' : Told) (fault : WriteFault) → requested words ≡ Some request → new.faults ≡ old.faults → GotInput request.made old.bytes new.bytes input
+    → EndsWriting request input out out' (Err fault) → Ends words old new out out' (status_of_write fault)
+Ends-failed words request input old new out out' writes.WriteFailed asked quiet got ends =
     ((receipt_of request input, HasStatus-success words request input old.bytes new.bytes asked got ends.0.accepted), Reports-done words request input old.bytes new.bytes (AppendsPrefix out.bytes out'.bytes) asked got ends.0, quiet, ends.1)
-Ends-written words request input old new out out' (Err (statuses.Input fault)) asked quiet got ends =
+Ends-failed words request input old new out out' (writes.Report (refusals.Input fault)) asked quiet got ends =
     ((request, (asked, subst (λ (o : Option InputFault). IsFor request old.bytes (status_by (receipt_of request input) o)) ends.0 (IsFor-got request old.bytes new.bytes input got))), (request, (asked, TookBy-got request.made old.bytes new.bytes input fault got (refusal-other request input fault ends.0))), quiet, ends.1)
-Ends-written words request input old new out out' (Err statuses.OutOfMemory) asked quiet got ends = ends
-Ends-written words request input old new out out' (Err (statuses.Success receipt)) asked quiet got ends = absurd ends
-Ends-written words request input old new out out' (Err statuses.Usage) asked quiet got ends = absurd ends
-Ends-written words request input old new out out' (Err statuses.ReadFailed) asked quiet got ends = absurd ends
+Ends-failed words request input old new out out' (writes.Report refusals.OutOfMemory) asked quiet got ends = ends
+
+pub Ends-unwritten : (words : List (List ℕ)) (request : Request) (input : Input) (old new out out' : Told) (fault : WriteFault) (status : Status) → status ≡ status_of_write fault → requested words ≡ Some request → new.faults ≡ old.faults → GotInput request.made old.bytes new.bytes input
+    → EndsWriting request input out out' (Err fault) → Ends words old new out out' status
+Ends-unwritten words request input old new out out' fault status is asked quiet got ends =
+    subst (λ (s : Status). Ends words old new out out' s) (sym is) (Ends-failed words request input old new out out' fault asked quiet got ends)
+
+-- where no write failed, the sink is as it was
+pub unwritten_by : {K : Type 0} (fault : WriteFault) (status : Status) (old new : K) → status ≡ status_of_write fault → (fault ≢ writes.WriteFailed → new ≡ old) → status ≢ statuses.WriteFailed → new ≡ old
+unwritten_by (writes.Report (refusals.Input fault)) status old new is same other = same (λ w. cc)
+unwritten_by (writes.Report refusals.OutOfMemory) status old new is same other = same (λ w. cc)
+unwritten_by writes.WriteFailed status old new is same other = absurd (other is)
 
 -- a success has one receipt
 pub with_receipt : (words : List (List ℕ)) (old new : Option (List ℕ)) (Done : List ℕ → Type 0) (a b : ReceiptState) → statuses.Success a ≡ statuses.Success b → ReportsWith words old new Done a → ReportsWith words old new Done b
@@ -125,26 +152,11 @@ one_request words a b first second = cc
 pub made_of_one : (words : List (List ℕ)) (a b : Request) (m : Made) → requested words ≡ Some a → requested words ≡ Some b → b.made ≡ Some m → a.made ≡ Some m
 made_of_one words a b m first second is = ap (λ (r : Request). r.made) (one_request words a b first second) ∙ is
 
--- getting an input ends in none of these
-pub stopped_other : (m : Option Made) (old new : Told) (status : Status) → StopsGetting m old new status → ((receipt : ReceiptState) → status ≢ statuses.Success receipt) × (status ≢ statuses.Usage)
-stopped_other (Some m) old new status stopped = (λ receipt is. cc, λ is. cc)
-stopped_other None old new (statuses.Input fault) stopped = (λ receipt is. cc, λ is. cc)
-stopped_other None old new statuses.ReadFailed stopped = (λ receipt is. cc, λ is. cc)
-stopped_other None old new statuses.OutOfMemory stopped = (λ receipt is. cc, λ is. cc)
-stopped_other None old new (statuses.Success receipt) stopped = absurd stopped
-stopped_other None old new statuses.Usage stopped = absurd stopped
-stopped_other None old new statuses.WriteFailed stopped = absurd stopped
-
 -- the status of a request whose source has these bytes
 status-is : (words : List (List ℕ)) (left : Option (List ℕ)) (status : Status) (request : Request) (bytes : List ℕ) → HasStatus words left status → requested words ≡ Some request → AreBytesOf request.made left bytes → status ≡ answer_of request bytes
 status-is words left status request bytes has asked are =
     let same : has.0 ≡ request = one_request words has.0 request has.1.0 asked in
     sym (subst (λ (r : Request). IsFor r left status) same has.1.1 bytes are)
-
--- a count that stood still didn't rise
-risen : (before after : ℕ) → StoodStill before after → Rose before after → ⊥
-risen before after still (inl rose) = omega (arith, still.same)
-risen before after still (inr ended) = omega (arith, still.below, ended.0)
 
 -- where no read fails, the status is that one, unless memory ran out or the report wasn't written
 pub complete_from : (words : List (List ℕ)) (request : Request) (bytes : List ℕ) (old new out out' : Told) (status : Status) → Ends words old new out out' status → requested words ≡ Some request
@@ -155,17 +167,6 @@ complete_from words request bytes old new out out' statuses.WriteFailed ends ask
 complete_from words request bytes old new out out' statuses.OutOfMemory ends asked are still = inr (inl refl)
 complete_from words request bytes old new out out' statuses.Usage ends asked are still = cc
 complete_from words request bytes old new out out' statuses.ReadFailed ends asked are still = absurd (risen old.faults new.faults still ends.1)
-
--- a source that gave one byte more than an input may have gave no input
-got_short : (m : Option Made) (old new : Option (List ℕ)) (input : Input) (had bytes : List ℕ) → GotInput m old new input → old ≡ Some had → GaveTooMuch old new bytes → ⊥
-got_short (Some m) old new input had bytes got is much = omega (arith, gave_nothing old new had bytes is got.0 much.gave, much.long)
-got_short None old new input had bytes got is much = omega (arith, gave_once old new had bytes got.0 is much.gave got.1.0.gave, much.long, got.1.0.short)
-
--- the fault for which it gave so much is that
-took_long : (m : Option Made) (old new : Option (List ℕ)) (fault : InputFault) (had bytes : List ℕ) → TookBy m fault old new → old ≡ Some had → GaveTooMuch old new bytes → fault ≡ too_long
-took_long (Some m) old new fault had bytes took is much = absurd (omega (arith, gave_nothing old new had bytes is took much.gave, much.long))
-took_long None old new fault had bytes (inl long) is much = long.0
-took_long None old new fault had bytes (inr all) is much = absurd (omega (arith, gave_once old new had bytes all.1.0 is much.gave all.1.1.gave, much.long, all.1.1.short))
 
 -- where a source that tells its bytes gave one more than an input may have, and no read failed, the input is too long, or memory ran out
 pub too_long_from : (words : List (List ℕ)) (had bytes : List ℕ) (old new out out' : Told) (status : Status) → Ends words old new out out' status → (status ≡ statuses.Usage → new.bytes ≡ old.bytes)

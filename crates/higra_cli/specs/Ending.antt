@@ -1,10 +1,15 @@
 -- How a run ends: the codes of the statuses, and the line that says why a run was refused.
 use Rattle.std.specs.Prelude.{ℕ, List, [], ◌∷◌, ◌++◌, codes}
 pub use Rattle.hg_base.specs.Fault.{name_of, input_words}
-use Rattle.higra_cli.specs.declared.ending.Status.{Status}
-use Rattle.higra_cli.specs.declared.ending.Status.TheVariants as statuses
-use Rattle.higra_cli.specs.declared.request.WordsFault.{WordsFault}
-use Rattle.higra_cli.specs.declared.request.WordsFault.TheVariants as words
+use Rattle.higra_cli.specs.declared.status.Status.{Status}
+use Rattle.higra_cli.specs.declared.status.Status.TheVariants as statuses
+use Rattle.higra_cli.specs.declared.fault.WriteFault.{WriteFault}
+use Rattle.higra_cli.specs.declared.fault.WriteFault.TheVariants as writes
+use Rattle.higra_input.specs.declared.fault.ReadFault.{ReadFault}
+use Rattle.higra_input.specs.declared.fault.ReadFault.TheVariants as reads
+use Rattle.higra_report.specs.declared.fault.ReportFault.TheVariants as refusals
+use Rattle.higra_words.specs.declared.fault.WordsFault.{WordsFault}
+use Rattle.higra_words.specs.declared.fault.WordsFault.TheVariants as words
 
 -- the code with which the program ends
 abbrev pub code_of : Status → ℕ
@@ -19,6 +24,18 @@ code_of statuses.OutOfMemory = 6
 abbrev pub status_of_words : WordsFault → Status
 status_of_words words.Usage = statuses.Usage
 status_of_words words.OutOfMemory = statuses.OutOfMemory
+
+-- the status of a run whose source gave no input
+abbrev pub status_of_read : ReadFault → Status
+status_of_read (reads.Input fault) = statuses.Input fault
+status_of_read reads.ReadFailed = statuses.ReadFailed
+status_of_read reads.OutOfMemory = statuses.OutOfMemory
+
+-- the status of a run whose report wasn't written
+abbrev pub status_of_write : WriteFault → Status
+status_of_write (writes.Report (refusals.Input fault)) = statuses.Input fault
+status_of_write (writes.Report refusals.OutOfMemory) = statuses.OutOfMemory
+status_of_write writes.WriteFailed = statuses.WriteFailed
 
 -- the words of a fault line as a line
 abbrev pub said : List ℕ → List ℕ

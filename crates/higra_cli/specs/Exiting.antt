@@ -4,11 +4,11 @@ use Rattle.std.specs.Io.KnownBytes.{Appends}
 use Rattle.hg_base.specs.Outside.{AppendsPrefix}
 use Rattle.hg_base.specs.declared.fault.InputFault.{InputFault}
 use Rattle.merge_board.specs.Seats.{ReceiptState}
-use Rattle.higra_cli.specs.Command.{requested}
+use Rattle.higra_words.specs.Command.{requested}
 use Rattle.higra_cli.specs.Ending.{code_of, fault_line}
 use Rattle.higra_cli.specs.Running.{HasStatus, Reports, ReportsWith}
-use Rattle.higra_cli.specs.declared.ending.Status.{Status}
-use Rattle.higra_cli.specs.declared.ending.Status.TheVariants as statuses
+use Rattle.higra_cli.specs.declared.status.Status.{Status}
+use Rattle.higra_cli.specs.declared.status.Status.TheVariants as statuses
 
 -- what the clauses of `run` say of its words and of what the source, the sink of the report and that of the fault line tell
 pub record Leaves (words : List (List ℕ)) (source source' out out' err err' : Option (List ℕ)) (status : Status) : Type 0 where

@@ -1,16 +1,3 @@
-pub mod Altitudes
-pub mod Command
 pub mod Ending
 pub mod Exiting
-pub mod Feeding
-pub mod Given
-pub mod Inputs
-pub mod Planning
-pub mod Reading
-pub mod Reports
-pub mod Request
 pub mod Running
-pub mod Spelled
-pub mod Worked
-pub mod Drawing
-pub mod Summary

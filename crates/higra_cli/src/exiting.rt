@@ -2,8 +2,8 @@
 ghost use Rattle.higra_cli.specs.Exiting.{ExitsWith};
 
 use super::running::run;
-use super::words::Words;
 use hg_base::{Gate, Sink, Source};
+use higra_words::Words;
 use std::alloc::Global;
 use std::thread::Threads;
 

@@ -1,41 +1,22 @@
-//! The program's words, what they ask for, and a whole run: from words and a source to a report and a status.
+//! A whole run: from words and a source to a report and a status. The words, the input and the report have crates of their
+//! own, whose calls stand here too.
 #![tactic(auto)]
 
-mod command;
-mod components;
-mod decoding;
-mod drawing;
-mod ending;
 mod exiting;
-mod hierarchies;
-mod input;
-pub mod laws;
+mod fault;
 mod line;
-mod options;
-mod planning;
-mod reading;
-mod request;
 mod running;
-mod summary;
-mod texts;
-mod words;
-mod writing;
+mod status;
 
-pub use command::{found_text, matches_by, with_option};
-pub use ending::Status;
 pub use exiting::exit_code;
-pub use extinction::Kind;
-pub use hierarchies::Basins;
-pub use input::Input;
+pub use fault::WriteFault;
+pub use hg_base::Kind;
+pub use higra_input::{Input, ReadFault, input_for};
+pub use higra_report::{Basins, ReportFault, ReportFault as RunFault, pixels_hierarchy, report};
+pub use higra_words::{
+    Form, Made, Report, Request, Words, WordsFault, cut_tree_named, found_text, laws, made_by,
+    matches_by, request_of, tile_by, with_option, workers_by,
+};
 pub use line::{FaultLine, kind_name};
-pub use options::{cut_tree_named, made_by, tile_by, workers_by};
-pub use planning::pixels_hierarchy;
-pub use request::{Form, Made, Report, Request, WordsFault, request_of};
-pub use running::{input_for, run, tell};
-pub use words::Words;
-pub use writing::{RunFault, report};
-
-#[cfg(test)]
-mod tests;
-#[cfg(test)]
-mod worked;
+pub use running::{run, tell};
+pub use status::Status;

@@ -2,7 +2,7 @@
 ghost use Rattle.std.specs.Prelude.{◌≡◌, ◌+◌, ◌≤◌, [], ◌∷◌, ◌++◌, length, decimal, codes};
 ghost use Rattle.higra_cli.specs.Ending.{fault_line, input_words, name_of, said};
 
-use super::ending::Status;
+use super::status::Status;
 use hg_base::{FaultKind, InputFault};
 use std::marker::Model;
 

@@ -1,25 +1,26 @@
 // A whole run.
-ghost use Rattle.std.specs.Prelude.{◌≡◌, ◌≢◌, ◌⊎◌, ◌<◌, ℕ, List, Some, None, IfErr, IfSome};
+ghost use Rattle.std.specs.Prelude.{◌≡◌, ◌≢◌, ◌⊎◌, ◌<◌, ℕ, List, Some, None, IfErr};
 ghost use Rattle.std.specs.Io.KnownBytes.{Appends};
 ghost use Rattle.hg_base.specs.Outside.{AppendsPrefix, Rose};
 ghost use Rattle.hg_base.specs.declared.fault.InputFault.{InputFault};
 ghost use Rattle.merge_board.specs.Seats.{ReceiptState};
-ghost use Rattle.higra_cli.specs.Command.{requested};
+ghost use Rattle.higra_words.specs.Allowed.{CanReport};
+ghost use Rattle.higra_words.specs.Command.{requested};
+ghost use Rattle.higra_words.specs.declared.request.Made.{Made};
+ghost use Rattle.higra_input.specs.Getting.{AreBytesOf, StoodStill};
+ghost use Rattle.higra_input.specs.Inputs.{too_long};
+ghost use Rattle.higra_input.specs.Reading.{GaveAtMost, GaveTooMuch, told};
 ghost use Rattle.higra_cli.specs.Ending.{fault_line};
-ghost use Rattle.higra_cli.specs.Inputs.{too_long};
-ghost use Rattle.higra_cli.specs.Reading.{GaveAtMost, GaveTooMuch, told};
-ghost use Rattle.higra_cli.specs.Running.{AreBytesOf, CanMake, CanReport, EndsGetting, EndsWork, EndsWriting, HasStatus, HasTaken, IsAnswerTo, Reports, ReportsWith, StoodStill};
+ghost use Rattle.higra_cli.specs.Running.{Ends, EndsWriting, HasStatus, HasTaken, IsAnswerTo, Reports, ReportsWith};
 
-use super::ending::Status;
-use super::input::Input;
+use super::fault::WriteFault;
 use super::line::FaultLine;
-use super::reading::read_input;
-use super::request::{Made, Request, request_of};
-use super::words::Words;
-use super::writing::{RunFault, report_in_pieces};
+use super::status::Status;
 use hg_base::{Gate, Sink, Source, write_all};
+use higra_input::{Input, input_for};
+use higra_report::report_in_pieces;
+use higra_words::{Request, Words, request_of};
 use merge_board::Receipt;
-use pgm_reader::make_picture;
 use report_lines::write_pieces;
 use std::alloc::Global;
 use std::thread::Threads;
@@ -74,17 +75,13 @@ pub fn run<S: Source, K: Sink, E: Sink, G: Gate>(
     ensures line { AppendsPrefix (E.content err.old) (E.content err.new) (fault_line result) }
     ensures whole_line { StoodStill (E.faults err.old) (E.faults err.new) → Appends (E.content err.old) (E.content err.new) (fault_line result) }
 {
-    match work(rt, alloc, words, source, out, gate) {
-        Ok(receipt) => Status::Success(receipt),
-        Err(status) => {
-            tell(&status, err);
-            status
-        }
-    }
+    let status = work(rt, alloc, words, source, out, gate);
+    tell(&status, err);
+    status
 }
 
-// All of a run but the fault line. An error is the status with which the run ends.
-#[tactic(auto, using(crate::proofs::RunningLemmas::made_of_one, crate::proofs::RunningLemmas::stopped_other))]
+// All of a run but the fault line: the status with which it ends.
+#[tactic(auto, using(crate::proofs::RunningLemmas::made_of_one))]
 fn work<S: Source, K: Sink, G: Gate>(
     rt: &(impl Threads + Sync),
     alloc: Global,
@@ -92,23 +89,29 @@ fn work<S: Source, K: Sink, G: Gate>(
     source: &mut S,
     out: &mut K,
     gate: &G,
-) -> Result<Receipt, Status>
-    ensures ends { EndsWork words.now (told (S.left source.old) (S.faults source.old)) (told (S.left source.new) (S.faults source.new)) (told (K.content out.old) (K.faults out.old)) (told (K.content out.new) (K.faults out.new)) result }
-    ensures refused { IfErr result (λ status. (receipt : ReceiptState) → status ≢ Status.Success receipt) }
+) -> Status
+    ensures ends { Ends words.now (told (S.left source.old) (S.faults source.old)) (told (S.left source.new) (S.faults source.new)) (told (K.content out.old) (K.faults out.old)) (told (K.content out.new) (K.faults out.new)) result }
     ensures most { GaveAtMost 134217729 (S.left source.old) (S.left source.new) }
-    ensures unread { IfErr result (λ status. status ≡ Status.Usage → source.new ≡ source.old) }
+    ensures unread { result ≡ Status.Usage → source.new ≡ source.old }
     ensures made { (request : Request) (m : Made) → requested words.now ≡ Some request → request.made ≡ Some m → source.new ≡ source.old }
-    ensures unwritten { IfErr result (λ status. status ≢ Status.WriteFailed → out.new ≡ out.old) }
+    ensures unwritten { ((receipt : ReceiptState) → result ≢ Status.Success receipt) → result ≢ Status.WriteFailed → out.new ≡ out.old }
 {
-    let request = request_of(alloc, words)?;
-    match input_for(alloc, request.made, source) {
-        Ok(input) => write_report(rt, alloc, &request, &input, out, gate),
-        Err(status) => Err(status),
+    let request = match request_of(alloc, words) {
+        Ok(request) => request,
+        Err(fault) => return Status::from(fault),
+    };
+    let input = match input_for(alloc, request.made, source) {
+        Ok(input) => input,
+        Err(fault) => return Status::from(fault),
+    };
+    match write_report(rt, alloc, &request, &input, out, gate) {
+        Ok(receipt) => Status::Success(receipt),
+        Err(fault) => Status::from(fault),
     }
 }
 
 // Makes the report that is asked for and writes it.
-#[tactic(auto, using(crate::proofs::RunningLemmas::reports_written), unfolding(crate::specs::Reports::refusal, crate::specs::Reports::report_of))]
+#[tactic(auto, using(crate::proofs::RunningLemmas::none_made, crate::proofs::RunningLemmas::reports_written), unfolding(higra_report::specs::Reports::refusal, higra_report::specs::Reports::report_of))]
 fn write_report<K: Sink, G: Gate>(
     rt: &(impl Threads + Sync),
     alloc: Global,
@@ -116,43 +119,35 @@ fn write_report<K: Sink, G: Gate>(
     input: &Input,
     out: &mut K,
     gate: &G,
-) -> Result<Receipt, Status>
+) -> Result<Receipt, WriteFault>
     requires { CanReport request.now }
     ensures ends { EndsWriting request.now input.now (told (K.content out.old) (K.faults out.old)) (told (K.content out.new) (K.faults out.new)) result }
-    ensures refused { IfErr result (λ status. (receipt : ReceiptState) → status ≢ Status.Success receipt) }
-    ensures asked { IfErr result (λ status. status ≢ Status.Usage) }
-    ensures unwritten { IfErr result (λ status. status ≢ Status.WriteFailed → out.new ≡ out.old) }
+    ensures unwritten { IfErr result (λ fault. fault ≢ WriteFault.WriteFailed → out.new ≡ out.old) }
 {
     match report_in_pieces(rt, alloc, request, input, gate) {
         Ok((pieces, receipt)) => match write_pieces(out, &pieces) {
             Ok(()) => Ok(receipt),
-            Err(_) => Err(Status::WriteFailed),
+            Err(_) => Err(WriteFault::WriteFailed),
         },
-        Err(RunFault::Input(fault)) => Err(Status::Input(fault)),
-        Err(RunFault::OutOfMemory) => Err(Status::OutOfMemory),
+        Err(fault) => Err(WriteFault::Report(fault)),
     }
 }
 
-/// The input of a request: the picture that it has made, or else what the source gives, which is read to its end. An error
-/// is the status with which the run ends.
-pub fn input_for<S: Source>(
-    alloc: Global,
-    made: Option<Made>,
-    source: &mut S,
-) -> Result<Input, Status>
-    requires { IfSome made CanMake }
-    ensures ends { EndsGetting made (told (S.left source.old) (S.faults source.old)) (told (S.left source.new) (S.faults source.new)) result }
-    ensures most { GaveAtMost 134217729 (S.left source.old) (S.left source.new) }
-    ensures made { (m : Made) → made ≡ Some m → source.new ≡ source.old }
-{
-    match made {
-        Some(Made { side, seed }) => Ok(Input::Picture(make_picture(alloc, side, seed)?)),
-        None => read_input(alloc, source),
-    }
-}
-
-/// Writes the fault line of the status, as far as the sink takes it.
+/// Writes the fault line of the status, as far as the sink takes it. Success has none, and then nothing is written.
+#[tactic(auto, using(crate::proofs::RunningLemmas::nothing_written))]
 pub fn tell<E: Sink>(status: &Status, err: &mut E)
+    ensures silent { (receipt : ReceiptState) → status.now ≡ Status.Success receipt → err.new ≡ err.old }
+    ensures line { AppendsPrefix (E.content err.old) (E.content err.new) (fault_line status.now) }
+    ensures whole_line { StoodStill (E.faults err.old) (E.faults err.new) → Appends (E.content err.old) (E.content err.new) (fault_line status.now) }
+{
+    match status {
+        Status::Success(_) => {}
+        _ => write_line(status, err),
+    }
+}
+
+// Writes the fault line of the status, as far as the sink takes it.
+fn write_line<E: Sink>(status: &Status, err: &mut E)
     ensures line { AppendsPrefix (E.content err.old) (E.content err.new) (fault_line status.now) }
     ensures whole_line { StoodStill (E.faults err.old) (E.faults err.new) → Appends (E.content err.old) (E.content err.new) (fault_line status.now) }
 {

@@ -1,7 +1,7 @@
 use Rattle.std.proofs.Common.{ap, ◌∙◌}
 use Rattle.std.specs.Prelude.{codes}
 use Rattle.clap.specs.Words.{App}
-use Rattle.higra_cli.specs.Command.{with_option}
+use Rattle.higra_words.specs.Command.{with_option}
 use Rattle.contour_run.specs.Command.{higra_contours}
 use Rattle.contour_run.proofs.command.command.Goals as goal
 

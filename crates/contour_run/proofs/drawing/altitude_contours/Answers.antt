@@ -1,4 +1,4 @@
-use Rattle.higra_cli.proofs.OrderedLemmas.{shared_roots}
+use Rattle.higra_report.proofs.SharedRoots.{shared_roots}
 use Rattle.contour_run.proofs.drawing.altitude_contours.Goals as goal
 
 pub draw_contours-requires-clause-roots : goal.draw_contours-requires-clause-roots

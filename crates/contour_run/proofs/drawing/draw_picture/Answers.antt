@@ -1,7 +1,7 @@
 use Rattle.std.proofs.Common.{subst}
 use Rattle.hg_base.specs.Graph.{WeightedGraph}
-use Rattle.higra_cli.proofs.OrderedLemmas.{is_hierarchy}
-use Rattle.higra_cli.specs.Running.{IsHierarchy}
+use Rattle.higra_report.proofs.HierarchyLemmas.{is_hierarchy}
+use Rattle.higra_report.specs.Theorems.{IsHierarchy}
 use Rattle.contour_run.proofs.DrawingLemmas.{receipt_drawn}
 use Rattle.contour_run.proofs.drawing.draw_picture.Goals as goal
 

@@ -39,8 +39,8 @@ loop-i-preserved c =
     deaths-same t m values labels c.loop-i.values (c.loop-i.i - 1) hi
     (dying-none t m values labels c.nodes-i.ensures.well_formed (c.loop-i.i - 1) a b node (sym (c.dying.ensures ∙ ap (λ (xs : List ℕ). dying_after values xs a b) c.deref-in-loop-i.ensures.value) ∙ c.in_default.is)) before
 
-pub value-requires : goal.value-requires
-value-requires c =
+pub value_by-requires : goal.value_by-requires
+value_by-requires c =
     let t = c.args.tree.now in
     let m = c.args.minima.now in
     let labels = c.args.survivors.now.labels.items in
@@ -93,7 +93,7 @@ loop-i-preserved-in-Some c =
     let own = read-own labels c.in-Some.child c.index-label.result.now (omega (arith, less, hi, long)) c.index-label.ensures in
     let is = survivor-is_label t m values c.args.survivors.now.pairs.items labels c.nodes-i.ensures.well_formed c.requires.survivors c.in-Some.child c.index-label.result.now (omega (arith, less, hi)) own (λ none'. dead.some_label (sym own ∙ none')) in
     let next' : c.loop-i.i ≡ c.loop-i.i - 1 + 1 = omega arith in
-    deaths-more t m values labels c.loop-i.values _ (c.loop-i.i - 1) c.in-Some.child c.index-label.result.now c.value.result hi dead.both dead.child_is own is c.value.ensures refl
+    deaths-more t m values labels c.loop-i.values _ (c.loop-i.i - 1) c.in-Some.child c.index-label.result.now c.value_by.result hi dead.both dead.child_is own is c.value_by.ensures refl
     (subst (λ (k : ℕ). AreDeathsFrom t m values labels k c.loop-i.values) next' c.loop-i.invariant)
 
 pub returns : goal.returns

@@ -11,8 +11,8 @@ index-label-requires c =
     let long = survivors-length c.args.tree.now c.args.minima.now (values_of c.args.kind c.args.attributes.now) c.args.survivors.now.pairs.items c.args.survivors.now.labels.items c.requires.survivors in
     omega (arith, long, c.args.survivors.now.labels.ok.0, c.loop-i-test.true, c.loop-i.auto.i, c.nodes-i.ensures.value)
 
-pub value-requires : goal.value-requires
-value-requires c =
+pub value_by-requires : goal.value_by-requires
+value_by-requires c =
     let long = one-areas c.args.tree.now c.args.attributes.now c.args.minima.now c.requires.one in
     omega (arith, long, c.loop-i-test.true, c.loop-i.auto.i, c.nodes-i.ensures.value)
 
@@ -39,7 +39,7 @@ loop-i-preserved-then-parent-i c =
     let own = read-own labels (c.loop-i.i - 1) c.index-label.result.now (omega (arith, hi, long)) c.index-label.ensures in
     let is = survivor-is_label t m values c.args.survivors.now.pairs.items labels c.nodes-i.ensures.well_formed c.requires.survivors (c.loop-i.i - 1) c.index-label.result.now hi own c.if-label-ne0.true in
     let next' : c.loop-i.i ≡ c.loop-i.i - 1 + 1 = omega arith in
-    roots-more t m values labels c.loop-i.values _ (c.loop-i.i - 1) c.index-label.result.now c.value.result hi (sym c.parent.ensures.value ∙ c.if-parent-i.true) own is c.value.ensures refl
+    roots-more t m values labels c.loop-i.values _ (c.loop-i.i - 1) c.index-label.result.now c.value_by.result hi (sym c.parent.ensures.value ∙ c.if-parent-i.true) own is c.value_by.ensures refl
     (subst (λ (k : ℕ). AreRootsFrom t m values labels k c.loop-i.values) next' c.loop-i.invariant)
 
 pub loop-i-preserved : goal.loop-i-preserved

@@ -1,4 +1,4 @@
-use Rattle.higra_cli.specs.Reading.{told}
+use Rattle.higra_input.specs.Reading.{told}
 use Rattle.hg_batch.proofs.RunningLemmas.{complete_from}
 use Rattle.hg_batch.specs.declared.ending.BatchStatus.TheVariants as statuses
 use Rattle.hg_batch.proofs.running.run_batch.Goals as goal

@@ -1,4 +1,4 @@
-use Rattle.higra_cli.specs.Reading.{told}
+use Rattle.higra_input.specs.Reading.{told}
 use Rattle.hg_batch.proofs.RunningLemmas.{EndsWork-read}
 use Rattle.hg_batch.proofs.running.work.Goals as goal
 

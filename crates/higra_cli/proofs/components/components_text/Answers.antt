@@ -1,5 +1,0 @@
-use Rattle.higra_cli.proofs.HierarchyLemmas.{hierarchy-is, where_ok}
-use Rattle.higra_cli.proofs.components.components_text.Goals as goal
-
-pub returns-clause-hierarchy : goal.returns-clause-hierarchy
-returns-clause-hierarchy g c = where_ok c.components_pieces.result _ (hierarchy-is c.args.graph.now c.n.ensures.graph)

@@ -1,7 +1,0 @@
-use Rattle.std.proofs.Common.{◌≡◌, take}
-use Rattle.higra_cli.specs.Summary.{greatest}
-use Rattle.higra_cli.proofs.summary.greatest_altitude.Given as goal
-
--- the greatest so far
-abbrev pub invariant-loop-i : goal.invariant-loop-i
-invariant-loop-i l = l.greatest ≡ greatest (take l.i l.tree.altitudes)

@@ -1,0 +1,4 @@
+pub mod EdgeListFaults
+pub mod GettingLemmas
+pub mod PictureFaults
+pub mod ReadingLemmas

@@ -1,0 +1,4 @@
+pub mod Feeding
+pub mod Getting
+pub mod Inputs
+pub mod Reading

@@ -1,0 +1,10 @@
+pub mod AltitudeLemmas
+pub mod ComponentLemmas
+pub mod CutLemmas
+pub mod DrawingLemmas
+pub mod EnergyLemmas
+pub mod HierarchyLemmas
+pub mod PlanningLemmas
+pub mod RefusalLemmas
+pub mod SharedRoots
+pub mod SummaryLemmas

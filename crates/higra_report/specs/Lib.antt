@@ -1,0 +1,6 @@
+pub mod Altitudes
+pub mod Drawing
+pub mod Planning
+pub mod Reports
+pub mod Summary
+pub mod Theorems

@@ -1,0 +1,5 @@
+pub mod Allowed
+pub mod Command
+pub mod CommandTexts
+pub mod Request
+pub mod Spelled

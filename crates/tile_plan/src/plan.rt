@@ -329,6 +329,3 @@ impl Plan {
         }
     }
 }
-
-#[cfg(test)]
-mod tests;

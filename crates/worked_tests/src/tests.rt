@@ -1,9 +1,9 @@
 use crate::running::{Ran, run_well};
-use crate::{PlainKind, PlainReport, PlainSide, components_of, made_picture, report_of};
 use std::alloc::{AllocError, Global};
 use std::process::Abort;
 use std::test::Fail;
 use std::thread::Threads;
+use worked_rows::{PlainKind, PlainReport, PlainSide, components_of, made_picture, report_of};
 
 const TRIANGLE: &str = "graph 3 3\n0 1 1\n1 2 1\n0 2 1\n";
 
@@ -544,25 +544,129 @@ fn the_program_and_the_definitions_agree(rt: HostRuntime) -> Result<(), Fail> {
     Ok(())
 }
 
-/// The sides and seeds of pictures that are made, and their words.
-const MADE: [(&[&str], u32, u32); 6] = [
+/// The sides and seeds of pictures that are made, and their words, with tiles and workers.
+const MADE: [(&[&str], u32, u32); 11] = [
     (&["--make", "1", "--seed", "0"], 1, 0),
     (&["--make", "2"], 2, 1),
-    (&["--make", "2", "--seed", "1"], 2, 1),
-    (&["--make", "2", "--seed", "4294967295"], 2, 4_294_967_295),
+    (
+        &[
+            "--make",
+            "2",
+            "--seed",
+            "1",
+            "--tile",
+            "1",
+            "--workers",
+            "2",
+        ],
+        2,
+        1,
+    ),
+    (
+        &[
+            "--make",
+            "2",
+            "--seed",
+            "4294967295",
+            "--tile",
+            "1",
+            "--workers",
+            "64",
+        ],
+        2,
+        4_294_967_295,
+    ),
     (&["--make", "3", "--seed", "7"], 3, 7),
+    (
+        &[
+            "--make",
+            "3",
+            "--seed",
+            "7",
+            "--tile",
+            "1",
+            "--workers",
+            "3",
+        ],
+        3,
+        7,
+    ),
+    (
+        &[
+            "--make",
+            "3",
+            "--seed",
+            "7",
+            "--tile",
+            "2",
+            "--workers",
+            "1",
+        ],
+        3,
+        7,
+    ),
     (&["--make", "4", "--seed", "2"], 4, 2),
+    (
+        &[
+            "--make",
+            "4",
+            "--seed",
+            "2",
+            "--tile",
+            "1",
+            "--workers",
+            "4",
+        ],
+        4,
+        2,
+    ),
+    (
+        &[
+            "--make",
+            "4",
+            "--seed",
+            "2",
+            "--tile",
+            "2",
+            "--workers",
+            "2",
+        ],
+        4,
+        2,
+    ),
+    (
+        &[
+            "--make",
+            "4",
+            "--seed",
+            "2",
+            "--tile",
+            "3",
+            "--workers",
+            "2",
+        ],
+        4,
+        2,
+    ),
 ];
 
-/// Reports that are compared on made pictures.
-const COMPARED_ON_PICTURES: [(&str, PlainReport); 6] = [
-    ("tree", PlainReport::Tree),
-    ("attributes", PlainReport::Attributes),
-    ("minima", PlainReport::Minima),
-    ("watershed", PlainReport::Watershed),
-    ("summary", PlainReport::Summary),
+/// Reports that are compared on made pictures, and their words.
+const COMPARED_ON_PICTURES: [(&[&str], PlainReport); 8] = [
+    (&["tree"], PlainReport::Tree),
+    (&["attributes"], PlainReport::Attributes),
+    (&["minima"], PlainReport::Minima),
+    (&["watershed"], PlainReport::Watershed),
+    (&["summary"], PlainReport::Summary),
     (
-        "hierarchical",
+        &["hierarchical", "--kind", "area"],
+        PlainReport::Hierarchical(PlainKind::Area),
+    ),
+    (
+        &["hierarchical", "--kind", "volume"],
+        PlainReport::Hierarchical(PlainKind::Volume),
+    ),
+    (
+        &["hierarchical", "--kind", "dynamics"],
         PlainReport::Hierarchical(PlainKind::Dynamics),
     ),
 ];
@@ -574,12 +678,12 @@ fn agrees_on_picture(
     picture: &str,
     words: &[&'static str],
 ) -> Result<(), Fail> {
-    for (word, report) in COMPARED_ON_PICTURES {
+    for (asked, report) in COMPARED_ON_PICTURES {
         let text = report_of(alloc, picture, report)?;
         let want = text.expect(rt, "a well-formed input");
-        let ran = run_tiled(rt, alloc, &[word], words, "")?;
-        assert_eq!(rt; ran.code, 0, "{word} of {words:?}");
-        assert_eq!(rt; ran.out.taken(), want.as_bytes(), "{word} of {words:?}");
+        let ran = run_tiled(rt, alloc, asked, words, "")?;
+        assert_eq!(rt; ran.code, 0, "{asked:?} of {words:?}");
+        assert_eq!(rt; ran.out.taken(), want.as_bytes(), "{asked:?} of {words:?}");
     }
     Ok(())
 }

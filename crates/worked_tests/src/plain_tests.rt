@@ -1,6 +1,6 @@
-use crate::{PlainKind, PlainReport, PlainSide, components_of, report_of};
 use std::process::Abort;
 use std::test::Fail;
+use worked_rows::{PlainKind, PlainReport, PlainSide, components_of, report_of};
 
 const PATH: &str = "graph 4 3\n0 1 1\n1 2 5\n2 3 2\n";
 

@@ -12,4 +12,3 @@ pub mod TurnLemmas
 pub mod ListTree
 pub mod PlannedTree
 pub mod PlannedLots
-pub mod TestLemmas

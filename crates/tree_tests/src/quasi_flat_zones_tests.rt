@@ -1,40 +1,12 @@
 ghost use Rattle.partition_tree.specs.Ranked.{IsRankedList};
 
-use super::zones;
+use crate::graphs::{APART, TRIANGLE};
 use hg_base::OutOfMemory;
 use partition_tree::{Ranked, Tree, write_tree};
+use quasi_flat_zones::zones;
 use std::alloc::Global;
 use std::process::Abort;
 use std::test::Fail;
-
-// Edges in order, from their ends, numbers and altitudes.
-const TRIANGLE: [Ranked; 3] = [
-    Ranked {
-        u: 0,
-        v: 1,
-        edge: 0,
-        altitude: 1,
-    },
-    Ranked {
-        u: 1,
-        v: 2,
-        edge: 1,
-        altitude: 1,
-    },
-    Ranked {
-        u: 0,
-        v: 2,
-        edge: 2,
-        altitude: 1,
-    },
-];
-
-const APART: [Ranked; 1] = [Ranked {
-    u: 0,
-    v: 1,
-    edge: 0,
-    altitude: 4,
-}];
 
 fn assert_zones(
     rt: &impl Abort,

@@ -1,8 +1,9 @@
-ghost use Rattle.std.specs.Prelude.{◌≡◌, ◌≤◌, IfOk};
+ghost use Rattle.std.specs.Prelude.{◌≤◌};
 ghost use Rattle.graph_hierarchy.specs.Tilings.{AreTiles};
 
-use super::{GraphHierarchy, Tiling};
-use hg_base::{Edge, Graph, OpenGate};
+use crate::graphs::graph_of;
+use graph_hierarchy::{GraphHierarchy, Tiling};
+use hg_base::OpenGate;
 use std::alloc::Global;
 use std::process::Abort;
 use std::test::Fail;
@@ -10,16 +11,6 @@ use std::thread::Threads;
 
 // The ends and weights of the edges of a cycle of four vertices.
 const CYCLE: [(u32, u32, u32); 4] = [(0, 1, 5), (2, 3, 6), (1, 2, 1), (0, 3, 2)];
-
-fn cycle(rt: &impl Abort, alloc: Global) -> Result<Graph, Fail>
-    ensures { IfOk result (λ graph. graph.n ≡ 4) }
-{
-    let mut edges = Vec::new(alloc);
-    for (u, v, w) in CYCLE {
-        edges.push(Edge { u, v, w })?;
-    }
-    Ok(Graph::from_edges(4, edges).expect(rt, "four vertices and edges between them"))
-}
 
 // Edges 2, 3 and 0 join, in this order, whatever the tiles and the workers.
 fn assert_tree(
@@ -33,7 +24,7 @@ fn assert_tree(
     requires some { 1 ≤ workers }
     requires few { workers ≤ 64 }
 {
-    let graph = cycle(rt, alloc)?;
+    let graph = graph_of(rt, alloc, 4, &CYCLE)?;
     let made = GraphHierarchy::of(rt, alloc, &graph, tiling, workers, &OpenGate).expect(
         rt,
         "ample memory",

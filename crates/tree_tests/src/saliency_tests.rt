@@ -1,37 +1,17 @@
 ghost use Rattle.partition_tree.specs.Ranked.{IsRankedList};
 
-use super::{
+use crate::graphs::{APART, RANKED_PATH, TRIANGLE, graph_of};
+use hg_base::OutOfMemory;
+use partition_tree::{Ranked, Tree};
+use saliency::{
     cut, ends_share_roots, saliency, saliency_in_threads, saliency_pieces, write_saliency,
 };
-use hg_base::{Edge, Graph, OutOfMemory};
-use partition_tree::{Ranked, Tree};
-use std::alloc::{AllocError, Global};
+use std::alloc::Global;
 use std::process::Abort;
 use std::test::Fail;
 use std::thread::Threads;
 
-// The edges of graphs in order, from their ends, numbers and altitudes.
-const TRIANGLE: [Ranked; 3] = [
-    Ranked {
-        u: 0,
-        v: 1,
-        edge: 0,
-        altitude: 1,
-    },
-    Ranked {
-        u: 1,
-        v: 2,
-        edge: 1,
-        altitude: 1,
-    },
-    Ranked {
-        u: 0,
-        v: 2,
-        edge: 2,
-        altitude: 1,
-    },
-];
-
+// The edges of a cycle of four vertices, in order of rank.
 const RING: [Ranked; 4] = [
     Ranked {
         u: 0,
@@ -59,52 +39,6 @@ const RING: [Ranked; 4] = [
     },
 ];
 
-const PATH: [Ranked; 3] = [
-    Ranked {
-        u: 0,
-        v: 1,
-        edge: 0,
-        altitude: 1,
-    },
-    Ranked {
-        u: 2,
-        v: 3,
-        edge: 2,
-        altitude: 2,
-    },
-    Ranked {
-        u: 1,
-        v: 2,
-        edge: 1,
-        altitude: 5,
-    },
-];
-
-const APART: [Ranked; 1] = [Ranked {
-    u: 0,
-    v: 1,
-    edge: 0,
-    altitude: 4,
-}];
-
-// The graph with these edges, each two ends and a weight.
-fn graph(
-    rt: &impl Abort,
-    alloc: Global,
-    n: u32,
-    rows: &[(u32, u32, u32)],
-) -> Result<Graph, AllocError> {
-    assert!(rt; 1 <= n);
-    assert!(rt; n <= 1_048_576);
-    assert!(rt; rows.len() <= 4_194_304);
-    let mut edges = Vec::new(alloc);
-    for &(u, v, w) in rows {
-        assert!(rt; u < n && v < n && u != v);
-        edges.push(Edge { u, v, w })?;
-    }
-    Ok(Graph::new(n, edges))
-}
-
 fn assert_saliency(
     rt: &(impl Threads + Sync + Abort),
     alloc: Global,
@@ -115,7 +49,7 @@ fn assert_saliency(
 ) -> Result<(), OutOfMemory>
     requires { IsRankedList n list.now }
 {
-    let graph = graph(rt, alloc, n, rows).map_err(|_| OutOfMemory)?;
+    let graph = graph_of(rt, alloc, n, rows).map_err(|_| OutOfMemory)?;
     let tree = Tree::of_list(alloc, n, list)?;
     assert!(rt; tree.leaves() == graph.n());
     let shared = ends_share_roots(alloc, &graph, &tree)?;
@@ -165,7 +99,7 @@ fn saliencies(rt: HostRuntime) -> Result<(), Fail> {
 
 #[test]
 fn regions(rt: HostRuntime) -> Result<(), Fail> {
-    assert_cut(&rt, rt.alloc(), 4, &PATH, 1, &[1, 1, 2, 3])?;
+    assert_cut(&rt, rt.alloc(), 4, &RANKED_PATH, 1, &[1, 1, 2, 3])?;
     assert_cut(&rt, rt.alloc(), 3, &APART, 4, &[1, 1, 2])?;
     Ok(())
 }

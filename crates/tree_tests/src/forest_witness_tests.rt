@@ -1,43 +1,20 @@
-ghost use Rattle.std.specs.Prelude.{◌≡◌, map, IfOk};
+ghost use Rattle.std.specs.Prelude.{◌≡◌, map};
 ghost use Rattle.hg_base.specs.Graph.{with_unit_areas};
 ghost use Rattle.hg_base.specs.Rank.{ranked};
 ghost use Rattle.hg_base.specs.Worked.{edge};
 ghost use Rattle.partition_tree.specs.Ranked.{IsRankedList, edges_of};
 
-use super::witness;
+use crate::graphs::{APART, APART_ROWS, PATH_ROWS, RANKED_PATH, graph_of};
 use edge_order::Order;
-use hg_base::{Edge, Graph};
+use forest_witness::witness;
 use partition_tree::{Ranked, Tree};
-use std::alloc::{AllocError, Global};
+use std::alloc::Global;
 use std::process::Abort;
 use std::test::Fail;
 use std::thread::Threads;
 use watershed_cut::{Minima, watershed};
 
 // Edges in order of number, two ends and a weight each, and the same in order of rank.
-const PATH: [(u32, u32, u32); 3] = [(0, 1, 1), (1, 2, 5), (2, 3, 2)];
-
-const RANKED_PATH: [Ranked; 3] = [
-    Ranked {
-        u: 0,
-        v: 1,
-        edge: 0,
-        altitude: 1,
-    },
-    Ranked {
-        u: 2,
-        v: 3,
-        edge: 2,
-        altitude: 2,
-    },
-    Ranked {
-        u: 1,
-        v: 2,
-        edge: 1,
-        altitude: 5,
-    },
-];
-
 const BETWEEN_MINIMA: [(u32, u32, u32); 4] = [(0, 1, 1), (1, 2, 3), (2, 3, 3), (3, 4, 1)];
 
 const RANKED_BETWEEN_MINIMA: [Ranked; 4] = [
@@ -90,35 +67,6 @@ const RANKED_PLATEAU: [Ranked; 3] = [
     },
 ];
 
-const APART: [(u32, u32, u32); 1] = [(0, 1, 4)];
-
-const RANKED_APART: [Ranked; 1] = [Ranked {
-    u: 0,
-    v: 1,
-    edge: 0,
-    altitude: 4,
-}];
-
-// The graph of n vertices with these edges.
-fn graph_of(
-    rt: &impl Abort,
-    alloc: Global,
-    n: u32,
-    rows: &[(u32, u32, u32)],
-) -> Result<Graph, AllocError>
-    ensures { IfOk result (λ graph. graph ≡ with_unit_areas n (map edge rows.now)) }
-{
-    assert!(rt; 1 <= n);
-    assert!(rt; n <= 1_048_576);
-    assert!(rt; rows.len() <= 4_194_304);
-    let mut edges = Vec::new(alloc);
-    for &(u, v, w) in rows {
-        assert!(rt; u < n && v < n && u != v);
-        edges.push(Edge { u, v, w })?;
-    }
-    Ok(Graph::new(n, edges))
-}
-
 // The weight of the forest of the graph with these edges, of which the list is the same in order of rank.
 fn forest_weight(
     rt: &(impl Abort + Threads + Sync),
@@ -141,13 +89,13 @@ fn forest_weight(
 #[test]
 fn weights(rt: HostRuntime) -> Result<(), Fail> {
     let alloc = rt.alloc();
-    let weight = forest_weight(&rt, alloc, 4, &PATH, &RANKED_PATH)?;
+    let weight = forest_weight(&rt, alloc, 4, &PATH_ROWS, &RANKED_PATH)?;
     assert_eq!(rt; weight, 0);
     let weight = forest_weight(&rt, alloc, 5, &BETWEEN_MINIMA, &RANKED_BETWEEN_MINIMA)?;
     assert_eq!(rt; weight, 3);
     let weight = forest_weight(&rt, alloc, 4, &PLATEAU, &RANKED_PLATEAU)?;
     assert_eq!(rt; weight, 4);
     assert_eq!(rt; forest_weight(&rt, alloc, 1, &[], &[])?, 0);
-    assert_eq!(rt; forest_weight(&rt, alloc, 3, &APART, &RANKED_APART)?, 0);
+    assert_eq!(rt; forest_weight(&rt, alloc, 3, &APART_ROWS, &APART)?, 0);
     Ok(())
 }

@@ -1,20 +1,18 @@
-ghost use Rattle.std.specs.Prelude.{◌≡◌, ◌<◌, ◌-◌, ◌∷◌, [], IfOk};
-ghost use Rattle.node_region.specs.Pool.{count};
-ghost use Rattle.border_climb.specs.Stands.{Stands};
-ghost use Rattle.tile_plan.specs.Plan.{edges_at, end_place, first_place, room_places, room_tiles, root, tile_count};
+ghost use Rattle.std.specs.Prelude.{◌≡◌};
 ghost use Rattle.partition_tree.specs.Ranked.{IsRankedList};
 
-use super::{Ancestors, Children, Ranked, Tree, tree_pieces, write_tree};
-use border_climb::{Part, build_tile, join};
+use crate::graphs::{APART, TRIANGLE, graph_of};
 use edge_order::Order;
-use hg_base::{Edge, Graph, OutOfMemory};
+use hg_base::{Graph, OpenGate, OutOfMemory};
+use merge_board::{Board, hierarchy};
+use partition_tree::{Ancestors, Children, Ranked, Tree, tree_pieces, write_tree};
 use std::alloc::{AllocError, Global};
 use std::process::Abort;
 use std::test::Fail;
 use std::thread::Threads;
 use tile_plan::Plan;
 
-// Edges in order, from lists of ends, number and altitude.
+// Edges in order of rank.
 const PATH: [Ranked; 2] = [
     Ranked {
         u: 1,
@@ -29,34 +27,6 @@ const PATH: [Ranked; 2] = [
         altitude: 5,
     },
 ];
-
-const TRIANGLE: [Ranked; 3] = [
-    Ranked {
-        u: 0,
-        v: 1,
-        edge: 0,
-        altitude: 1,
-    },
-    Ranked {
-        u: 1,
-        v: 2,
-        edge: 1,
-        altitude: 1,
-    },
-    Ranked {
-        u: 0,
-        v: 2,
-        edge: 2,
-        altitude: 1,
-    },
-];
-
-const APART: [Ranked; 1] = [Ranked {
-    u: 0,
-    v: 1,
-    edge: 0,
-    altitude: 4,
-}];
 
 // Two paths of nodes that meet in the last.
 const PATHS: [Ranked; 5] = [
@@ -234,92 +204,6 @@ fn lists(rt: HostRuntime) -> Result<(), Fail> {
     Ok(())
 }
 
-// The part of a tile before it takes in an edge.
-fn opened_part(rt: &impl Abort, alloc: Global, plan: &Plan, tile: u32) -> Result<Part, OutOfMemory>
-    requires { tile < tile_count plan.now }
-    ensures first { IfOk result (λ part. part.region.first ≡ first_place plan.now tile) }
-    ensures count { IfOk result (λ part. count part.region ≡ end_place plan.now tile - first_place plan.now tile) }
-    ensures chunks { IfOk result (λ part. part.region.chunks ≡ 1) }
-    ensures room { IfOk result (λ part. part.region.room ≡ record { places = room_places plan.now tile; chunks = room_tiles plan.now tile }) }
-    ensures lots { IfOk result (λ part. part.lots ≡ []) }
-    ensures stands { IfOk result (λ part. Stands part []) }
-{
-    let _ = plan.n();
-    let (first, count) = plan.range(tile);
-    let room = plan.room_of(tile);
-    assert!(rt; 1 <= count && count <= room.places);
-    assert!(rt; first <= 1_048_576 && room.places <= 1_048_576 - first);
-    assert!(rt; 1 <= room.chunks && room.chunks <= 65_536);
-    Part::of_tile(alloc, first, count, room)
-}
-
-// The part of a tile, which took in the tile's lot.
-fn tile_part(rt: &impl Abort, alloc: Global, plan: &Plan, tile: u32) -> Result<Part, OutOfMemory>
-    requires { tile < tile_count plan.now }
-    ensures first { IfOk result (λ part. part.region.first ≡ first_place plan.now tile) }
-    ensures count { IfOk result (λ part. count part.region ≡ end_place plan.now tile - first_place plan.now tile) }
-    ensures chunks { IfOk result (λ part. part.region.chunks ≡ 1) }
-    ensures room { IfOk result (λ part. part.region.room ≡ record { places = room_places plan.now tile; chunks = room_tiles plan.now tile }) }
-    ensures lots { IfOk result (λ part. part.lots ≡ tile ∷ []) }
-    ensures stands { IfOk result (λ part. Stands part (edges_at plan.now tile)) }
-{
-    let _ = plan.n();
-    let part = opened_part(rt, alloc, plan, tile)?;
-    Ok(build_tile(part, tile, plan.lot(tile)))
-}
-
-// The part of a plan of two tiles, which took in all edges.
-fn joined_part(rt: &impl Abort, alloc: Global, plan: &Plan) -> Result<Part, OutOfMemory>
-    requires { tile_count plan.now ≡ 2 }
-    ensures { IfOk result (λ part. Stands part (edges_at plan.now (root plan.now))) }
-{
-    let _ = plan.n();
-    let (first, second) = plan.children(2);
-    assert!(rt; first < 2 && second < 2);
-    let left = tile_part(rt, alloc, plan, first)?;
-    let right = tile_part(rt, alloc, plan, second)?;
-    let room = plan.room_of(first);
-    let begins = left.first();
-    let follows = right.first();
-    let places = left.count();
-    let others = right.count();
-    assert!(rt; begins <= follows);
-    assert!(rt; follows - begins == places);
-    assert!(rt; places <= room.places);
-    assert!(rt; others <= room.places - places);
-    assert!(rt; 2 <= room.chunks);
-    Ok(join(left, right, 2, plan.lot(2)))
-}
-
-// The part of a plan of one or two tiles, which took in all edges.
-fn whole_part(rt: &impl Abort, alloc: Global, plan: &Plan) -> Result<Part, OutOfMemory>
-    ensures { IfOk result (λ part. Stands part (edges_at plan.now (root plan.now))) }
-{
-    if plan.tiles() == 1 {
-        return tile_part(rt, alloc, plan, 0);
-    }
-    assert!(rt; plan.tiles() == 2);
-    joined_part(rt, alloc, plan)
-}
-
-// The graph of n vertices with edges of these ends and weights.
-fn graph_of(
-    rt: &impl Abort,
-    alloc: Global,
-    n: u32,
-    rows: &[(u32, u32, u32)],
-) -> Result<Graph, AllocError> {
-    assert!(rt; 1 <= n);
-    assert!(rt; n <= 1_048_576);
-    assert!(rt; rows.len() <= 4_194_304);
-    let mut edges = Vec::new(alloc);
-    for &(u, v, w) in rows {
-        assert!(rt; u < n && v < n && u != v);
-        edges.push(Edge { u, v, w })?;
-    }
-    Ok(Graph::new(n, edges))
-}
-
 // The trees that are made over a plan of blocks, in one thread and in many.
 fn planned_trees(
     rt: &(impl Abort + Threads + Sync),
@@ -330,11 +214,9 @@ fn planned_trees(
     let order = Order::of(rt, alloc, graph)?;
     assert!(rt; 1 <= tile);
     let plan = Plan::blocks(alloc, graph, &order, tile).expect(rt, "ample memory");
-    let part = whole_part(rt, alloc, &plan)?;
-    let places = part.count();
-    let vertices = plan.n();
-    assert!(rt; part.first() == 0);
-    assert!(rt; places == vertices);
+    let (board, mut seats) = Board::set_up(alloc, &plan, 2)?;
+    hierarchy(rt, &board, &mut seats, &plan, &OpenGate);
+    let (part, _) = board.close(&plan, seats);
     let tree = Tree::of_part(alloc, &order, &plan, &part)?;
     let threaded = Tree::of_part_in_threads(rt, alloc, &order, &plan, &part)?;
     Ok((tree, threaded))

@@ -1,6 +1,6 @@
 ghost use Rattle.contour_map.specs.Places.{AreEdgeValues};
 
-use super::{ContourMap, write_contours};
+use contour_map::{ContourMap, write_contours};
 use hg_base::OutOfMemory;
 use std::alloc::Global;
 use std::test::Fail;

@@ -1,5 +1,5 @@
-use super::{LabelFault, labels_pieces, write_labels, write_pgm};
 use hg_base::Labels;
+use label_writer::{LabelFault, labels_pieces, write_labels, write_pgm};
 use std::alloc::{AllocError, Global};
 use std::process::Abort;
 use std::test::Fail;

@@ -1,5 +1,5 @@
-use super::{LineWriter, Lines, Pieces, pieces_of, text_of, write_pieces};
 use hg_base::MemSink;
+use report_lines::{LineWriter, Lines, Pieces, pieces_of, text_of, write_pieces};
 use std::alloc::AllocError;
 use std::io;
 use std::test::Fail;

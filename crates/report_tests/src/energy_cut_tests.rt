@@ -3,41 +3,12 @@ ghost use Rattle.hg_base.specs.Tree.{altitude};
 ghost use Rattle.partition_tree.specs.Forest.{nodes};
 ghost use Rattle.partition_tree.specs.Ranked.{IsRankedList};
 
-use super::{least_cut, node_energies, write_energy};
+use crate::graphs::{APART, PATH};
+use energy_cut::{least_cut, node_energies, write_energy};
 use partition_tree::{Ranked, Tree};
 use std::alloc::Global;
 use std::process::Abort;
 use std::test::Fail;
-
-// The edges of a path of four vertices, in order of rank.
-const PATH: [Ranked; 3] = [
-    Ranked {
-        u: 0,
-        v: 1,
-        edge: 0,
-        altitude: 1,
-    },
-    Ranked {
-        u: 2,
-        v: 3,
-        edge: 2,
-        altitude: 2,
-    },
-    Ranked {
-        u: 1,
-        v: 2,
-        edge: 1,
-        altitude: 5,
-    },
-];
-
-// One edge, beside a vertex that has none.
-const APART: [Ranked; 1] = [Ranked {
-    u: 0,
-    v: 1,
-    edge: 0,
-    altitude: 4,
-}];
 
 // Whether all altitudes are below 2^32.
 fn is_low(tree: &Tree) -> bool

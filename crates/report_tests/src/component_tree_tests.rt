@@ -1,16 +1,16 @@
-ghost use Rattle.std.specs.Prelude.{◌≡◌, ℕ, ◌≤◌, length, map, IfOk};
+ghost use Rattle.std.specs.Prelude.{◌≡◌, length, map};
 ghost use Rattle.hg_base.specs.Graph.{with_unit_areas};
 ghost use Rattle.hg_base.specs.Rank.{ranked};
 ghost use Rattle.hg_base.specs.Worked.{edge};
 ghost use Rattle.partition_tree.specs.Ranked.{IsRankedList, edges_of};
 ghost use Rattle.component_tree.specs.Weighed.{weighed_graph};
 
-use super::{
+use crate::graphs::graph_of;
+use component_tree::{
     ComponentTree, Side, Values, component_tree, components_pieces, weighed, write_components,
 };
-use hg_base::{Edge, Graph};
 use partition_tree::{Ranked, Tree};
-use std::alloc::{AllocError, Global};
+use std::alloc::Global;
 use std::process::Abort;
 use std::test::Fail;
 
@@ -23,26 +23,6 @@ const SQUARE_SAMPLES: [u32; 4] = [0, 3, 3, 9];
 const ROW: [(u32, u32, u32); 2] = [(0, 1, 3), (1, 2, 3)];
 
 const ROW_SAMPLES: [u32; 3] = [2, 5, 2];
-
-// The graph with these edges, in which each vertex has the area 1.
-fn graph(
-    rt: &impl Abort,
-    alloc: Global,
-    n: u32,
-    rows: &[(u32, u32, u32)],
-) -> Result<Graph, AllocError>
-    requires some { 1 ≤ n }
-    requires few { n ≤ 1048576 }
-    ensures { IfOk result (λ graph. graph ≡ with_unit_areas n (map edge rows.now)) }
-{
-    assert!(rt; rows.len() <= 4_194_304);
-    let mut edges = Vec::new(alloc);
-    for &(u, v, w) in rows {
-        assert!(rt; u < n && v < n && u != v);
-        edges.push(Edge { u, v, w })?;
-    }
-    Ok(Graph::new(n, edges))
-}
 
 // The component tree of a graph with these edges and values, whose weighed edges are the list in order of rank.
 fn components(
@@ -57,7 +37,7 @@ fn components(
     requires ranked { edges_of list.now ≡ ranked (weighed_graph side samples.now (with_unit_areas (length samples.now) (map edge rows.now))) }
 {
     let n = samples.len() as u32;
-    let graph = graph(rt, alloc, n, rows)?;
+    let graph = graph_of(rt, alloc, n, rows)?;
     let values = Values::new(Vec::from_slice(alloc, samples)?);
     let weighed = weighed(alloc, &graph, &values, side)?;
     let tree = Tree::of_list(alloc, n, list)?;

@@ -1,45 +1,22 @@
-ghost use Rattle.std.specs.Prelude.{◌≡◌, length, IfOk};
+ghost use Rattle.std.specs.Prelude.{◌≡◌, length};
 ghost use Rattle.hg_base.specs.Rank.{ranked};
 ghost use Rattle.partition_tree.specs.Ranked.{IsRankedList, edges_of};
-ghost use Rattle.attributes.specs.Tests.{graph_from};
+ghost use Rattle.report_tests.specs.Graphs.{graph_from};
 
-use super::{
-    Kind, extinctions, hierarchical, hierarchical_pieces, persistence, write_hierarchical,
-};
+use crate::graphs::{APART, APART_ROWS, PATH, PATH_ROWS, graph_with};
 use attributes::Attributes;
 use edge_order::Order;
-use hg_base::{Edge, Graph};
+use extinction::{
+    Kind, extinctions, hierarchical, hierarchical_pieces, persistence, write_hierarchical,
+};
 use partition_tree::{Ranked, Tree};
-use std::alloc::{AllocError, Global};
+use std::alloc::Global;
 use std::process::Abort;
 use std::test::Fail;
 use std::thread::Threads;
 use watershed_cut::Minima;
 
 // Edges in order of number, two ends and a weight each, and the same in order of rank.
-const PATH: [(u32, u32, u32); 3] = [(0, 1, 1), (1, 2, 5), (2, 3, 2)];
-
-const RANKED_PATH: [Ranked; 3] = [
-    Ranked {
-        u: 0,
-        v: 1,
-        edge: 0,
-        altitude: 1,
-    },
-    Ranked {
-        u: 2,
-        v: 3,
-        edge: 2,
-        altitude: 2,
-    },
-    Ranked {
-        u: 1,
-        v: 2,
-        edge: 1,
-        altitude: 5,
-    },
-];
-
 const LONG_PATH: [(u32, u32, u32); 5] = [(0, 1, 1), (1, 2, 4), (2, 3, 2), (3, 4, 6), (4, 5, 1)];
 
 const RANKED_LONG_PATH: [Ranked; 5] = [
@@ -75,36 +52,6 @@ const RANKED_LONG_PATH: [Ranked; 5] = [
     },
 ];
 
-const APART: [(u32, u32, u32); 1] = [(0, 1, 4)];
-
-const RANKED_APART: [Ranked; 1] = [Ranked {
-    u: 0,
-    v: 1,
-    edge: 0,
-    altitude: 4,
-}];
-
-// The graph with these areas and edges.
-fn graph(
-    rt: &impl Abort,
-    alloc: Global,
-    areas: &[u32],
-    rows: &[(u32, u32, u32)],
-) -> Result<Graph, AllocError>
-    ensures { IfOk result (λ graph. graph ≡ graph_from (length areas.now) areas.now rows.now) }
-{
-    assert!(rt; 1 <= areas.len() && areas.len() <= 1_048_576);
-    assert!(rt; areas.iter().all(|area| 1 <= *area && *area <= 4096));
-    assert!(rt; rows.len() <= 4_194_304);
-    let n = areas.len() as u32;
-    let mut edges = Vec::new(alloc);
-    for &(u, v, w) in rows {
-        assert!(rt; u < n && v < n && u != v);
-        edges.push(Edge { u, v, w })?;
-    }
-    Ok(Graph::with_areas(n, Vec::from_slice(alloc, areas)?, edges))
-}
-
 // The persistences and the report of the hierarchical watershed of the graph with these areas and edges, of which the
 // list is the same in order of rank.
 fn found(
@@ -118,7 +65,7 @@ fn found(
     requires list { IsRankedList (length areas.now) list.now }
     requires ranked { edges_of list.now ≡ ranked (graph_from (length areas.now) areas.now rows.now) }
 {
-    let graph = graph(rt, alloc, areas, rows)?;
+    let graph = graph_with(rt, alloc, areas, rows)?;
     let order = Order::of(rt, alloc, &graph)?;
     let tree = Tree::of_list(alloc, graph.n(), list)?;
     let attributes = Attributes::of(alloc, &graph, &tree)?;
@@ -142,7 +89,7 @@ fn a_path_by_each_kind(rt: HostRuntime) -> Result<(), Fail> {
     ];
     for (kind, top, rest) in table {
         let areas = [1, 1, 1, 1];
-        let (values, text) = found(&rt, rt.alloc(), &areas, &PATH, &RANKED_PATH, kind)?;
+        let (values, text) = found(&rt, rt.alloc(), &areas, &PATH_ROWS, &PATH, kind)?;
         assert_eq!(rt; values.as_slice(), [0, 0, top].as_slice());
         assert!(rt; text.starts_with(tree.as_bytes()));
         assert!(rt; text.ends_with(rest.as_bytes()));
@@ -170,14 +117,7 @@ fn the_greater_label_dies_on_a_tie(rt: HostRuntime) -> Result<(), Fail> {
 #[test]
 fn several_roots_one_vertex_and_areas(rt: HostRuntime) -> Result<(), Fail> {
     let alloc = rt.alloc();
-    let (_, text) = found(
-        &rt,
-        alloc,
-        &[1, 1, 1],
-        &APART,
-        &RANKED_APART,
-        Kind::Dynamics,
-    )?;
+    let (_, text) = found(&rt, alloc, &[1, 1, 1], &APART_ROWS, &APART, Kind::Dynamics)?;
     let report = "tree 4 3\n0 3 0\n1 3 0\n2 2 0\n3 3 0\nextinctions 2\n1 0\n2 0\n";
     assert_eq!(rt; text.as_slice(), report.as_bytes());
     let (_, text) = found(&rt, alloc, &[1], &[], &[], Kind::Dynamics)?;
@@ -185,7 +125,7 @@ fn several_roots_one_vertex_and_areas(rt: HostRuntime) -> Result<(), Fail> {
         text.as_slice(),
         b"tree 1 1\n0 0 0\nextinctions 1\n1 0\n".as_slice()
     );
-    let (_, text) = found(&rt, alloc, &[1, 1, 1, 10], &PATH, &RANKED_PATH, Kind::Area)?;
+    let (_, text) = found(&rt, alloc, &[1, 1, 1, 10], &PATH_ROWS, &PATH, Kind::Area)?;
     let report =
         "tree 7 4\n0 4 0\n1 4 0\n2 5 0\n3 5 0\n4 6 0\n5 6 0\n6 6 2\nextinctions 2\n1 2\n2 13\n";
     assert_eq!(rt; text.as_slice(), report.as_bytes());

@@ -1,0 +1,7 @@
+use Rattle.std.proofs.Common.{◌≡◌, map, take}
+use Rattle.hg_base.specs.Worked.{edge}
+use Rattle.report_tests.proofs.graphs.edges_of.Given as goal
+
+-- the rows so far are edges
+abbrev pub invariant-loop-u : goal.invariant-loop-u
+invariant-loop-u g l = l.edges.items ≡ map edge (take l.u-index l.rows)

@@ -1,5 +1,5 @@
-use super::run_batch;
 use hg_base::{MemSink, MemSource, OutOfMemory};
+use hg_batch::run_batch;
 use higra_cli::Words;
 use std::alloc::{AllocError, Global};
 use std::process::Abort;

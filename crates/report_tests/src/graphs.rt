@@ -1,6 +1,6 @@
 // Graphs that the tests share: edges in order of number, two ends and a weight each, and edges in order of rank.
-ghost use Rattle.std.specs.Prelude.{◌≡◌, length, map, IfOk};
-ghost use Rattle.hg_base.specs.Graph.{with_unit_areas};
+ghost use Rattle.std.specs.Prelude.{◌≡◌, All, length, map, IfOk};
+ghost use Rattle.hg_base.specs.Graph.{JoinsTwo, with_unit_areas};
 ghost use Rattle.hg_base.specs.Worked.{edge};
 ghost use Rattle.report_tests.specs.Graphs.{graph_from};
 
@@ -42,12 +42,19 @@ pub(crate) const APART: [Ranked; 1] = [Ranked {
     altitude: 4,
 }];
 
-// The edges with these ends and weights.
-fn edges_of(alloc: Global, rows: &[(u32, u32, u32)]) -> Result<Vec<Edge>, AllocError>
-    ensures { IfOk result (λ edges. edges.items ≡ map edge rows.now) }
+// The edges with these ends and weights, which join two of n vertices each.
+fn edges_of(
+    rt: &impl Abort,
+    alloc: Global,
+    n: u32,
+    rows: &[(u32, u32, u32)],
+) -> Result<Vec<Edge>, AllocError>
+    ensures made { IfOk result (λ edges. edges.items ≡ map edge rows.now) }
+    ensures ends { IfOk result (λ edges. All (JoinsTwo n) edges.items) }
 {
     let mut edges = Vec::new(alloc);
     for &(u, v, w) in rows {
+        assert!(rt; u < n && v < n && u != v);
         edges.push(Edge { u, v, w })?;
     }
     Ok(edges)
@@ -62,7 +69,7 @@ pub(crate) fn graph_of(
 ) -> Result<Graph, AllocError>
     ensures { IfOk result (λ graph. graph ≡ with_unit_areas n (map edge rows.now)) }
 {
-    let edges = edges_of(alloc, rows)?;
+    let edges = edges_of(rt, alloc, n, rows)?;
     Ok(Graph::from_edges(n, edges).expect(rt, "the edges of a graph"))
 }
 
@@ -77,9 +84,8 @@ pub(crate) fn graph_with(
 {
     assert!(rt; 1 <= areas.len() && areas.len() <= 1_048_576);
     assert!(rt; areas.iter().all(|area| 1 <= *area && *area <= 4096));
-    // That the edges are those of a graph.
+    assert!(rt; rows.len() <= 4_194_304);
     let n = areas.len() as u32;
-    let _ = graph_of(rt, alloc, n, rows)?;
-    let edges = edges_of(alloc, rows)?;
+    let edges = edges_of(rt, alloc, n, rows)?;
     Ok(Graph::with_areas(n, Vec::from_slice(alloc, areas)?, edges))
 }

@@ -1,7 +1,10 @@
-ghost use Rattle.std.specs.Prelude.{◌≡◌};
+ghost use Rattle.std.specs.Prelude.{◌≡◌, IfOk};
+ghost use Rattle.border_climb.specs.Stands.{Stands};
+ghost use Rattle.tile_plan.specs.Plan.{edges_at, root};
 ghost use Rattle.partition_tree.specs.Ranked.{IsRankedList};
 
 use crate::graphs::{APART, TRIANGLE, graph_of};
+use border_climb::Part;
 use edge_order::Order;
 use hg_base::{Graph, OpenGate, OutOfMemory};
 use merge_board::{Board, hierarchy};
@@ -204,6 +207,16 @@ fn lists(rt: HostRuntime) -> Result<(), Fail> {
     Ok(())
 }
 
+// The part of a plan, which took in all edges.
+fn whole_part(rt: &(impl Threads + Sync), alloc: Global, plan: &Plan) -> Result<Part, OutOfMemory>
+    ensures { IfOk result (λ part. Stands part (edges_at plan.now (root plan.now))) }
+{
+    let (board, mut seats) = Board::set_up(alloc, plan, 2)?;
+    hierarchy(rt, &board, &mut seats, plan, &OpenGate);
+    let (part, _) = board.close(plan, seats);
+    Ok(part)
+}
+
 // The trees that are made over a plan of blocks, in one thread and in many.
 fn planned_trees(
     rt: &(impl Abort + Threads + Sync),
@@ -214,9 +227,11 @@ fn planned_trees(
     let order = Order::of(rt, alloc, graph)?;
     assert!(rt; 1 <= tile);
     let plan = Plan::blocks(alloc, graph, &order, tile).expect(rt, "ample memory");
-    let (board, mut seats) = Board::set_up(alloc, &plan, 2)?;
-    hierarchy(rt, &board, &mut seats, &plan, &OpenGate);
-    let (part, _) = board.close(&plan, seats);
+    let part = whole_part(rt, alloc, &plan)?;
+    let places = part.count();
+    let vertices = plan.n();
+    assert!(rt; part.first() == 0);
+    assert!(rt; places == vertices);
     let tree = Tree::of_part(alloc, &order, &plan, &part)?;
     let threaded = Tree::of_part_in_threads(rt, alloc, &order, &plan, &part)?;
     Ok((tree, threaded))

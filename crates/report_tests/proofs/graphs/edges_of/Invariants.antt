@@ -1,7 +1,8 @@
-use Rattle.std.proofs.Common.{◌≡◌, map, take}
+use Rattle.std.proofs.Common.{◌≡◌, All, map, take}
+use Rattle.hg_base.specs.Graph.{JoinsTwo}
 use Rattle.hg_base.specs.Worked.{edge}
 use Rattle.report_tests.proofs.graphs.edges_of.Given as goal
 
 -- the rows so far are edges
 abbrev pub invariant-loop-u : goal.invariant-loop-u
-invariant-loop-u g l = l.edges.items ≡ map edge (take l.u-index l.rows)
+invariant-loop-u g l = record { made : l.edges.items ≡ map edge (take l.u-index l.rows); ends : All (JoinsTwo l.n) l.edges.items }

@@ -166,6 +166,3 @@ impl Order {
         }
     }
 }
-
-#[cfg(test)]
-mod tests;

@@ -12,4 +12,3 @@ pub mod RankByRank
 pub mod ListTree
 pub mod PlanTree
 pub mod PlanLots
-pub mod TestLemmas

@@ -22,6 +22,3 @@ pub use laws::{tree_is_well_formed, tree_under_other_names};
 pub use list::Ranked;
 pub use report::{tree_pieces, write_tree};
 pub use tree::Tree;
-
-#[cfg(test)]
-mod tests;

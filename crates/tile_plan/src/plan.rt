@@ -330,6 +330,3 @@ impl Plan {
         }
     }
 }
-
-#[cfg(test)]
-mod tests;

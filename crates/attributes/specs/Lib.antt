@@ -4,4 +4,3 @@ pub mod Floors
 pub mod Gathering
 pub mod Report
 pub mod Sums
-pub mod Tests

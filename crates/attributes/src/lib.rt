@@ -12,6 +12,3 @@ mod table;
 pub use laws::{floors_are_low, volume_by_area};
 pub use report::{attributes_pieces, write_attributes};
 pub use table::Attributes;
-
-#[cfg(test)]
-mod tests;

@@ -40,8 +40,8 @@ impl Attributes {
         made(alloc, graph, tree).map_err(|_| OutOfMemory)
     }
 
-    // How many nodes there are.
-    pub(crate) fn nodes(&self) -> u32
+    /// How many nodes there are. It takes no memory.
+    pub fn nodes(&self) -> u32
         ensures { result ≡ length self.now.areas }
     {
         self.areas.len() as u32

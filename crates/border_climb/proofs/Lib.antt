@@ -12,4 +12,3 @@ pub mod Splices
 pub mod Parts
 pub mod Lots
 pub mod Uniting
-pub mod Checked

@@ -10,6 +10,3 @@ mod splicing;
 pub use building::{build_tile, join};
 pub use given::Given;
 pub use part::Part;
-
-#[cfg(test)]
-mod tests;

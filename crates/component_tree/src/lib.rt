@@ -18,6 +18,3 @@ pub use side::Side;
 pub use tree::ComponentTree;
 pub use values::Values;
 pub use weights::weighed;
-
-#[cfg(test)]
-mod tests;

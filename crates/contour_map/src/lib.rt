@@ -12,6 +12,3 @@ pub use drawn::draw_contours;
 pub use laws::{contours_are_of_edges, scaling_keeps_the_order};
 pub use map::ContourMap;
 pub use picture::write_contours;
-
-#[cfg(test)]
-mod tests;

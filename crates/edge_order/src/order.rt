@@ -174,6 +174,3 @@ impl Order {
         }
     }
 }
-
-#[cfg(test)]
-mod tests;

@@ -10,4 +10,3 @@ pub mod Tops
 pub mod Chosen
 pub mod Sums
 pub mod CutOfLists
-pub mod TestForest

@@ -13,8 +13,3 @@ pub use laws::{
     cuts_are_listed, energies_fit, least_cut_is_one, nodes_have_leaves, regions_by_nodes,
 };
 pub use report::{energy_pieces, write_energy};
-
-#[cfg(test)]
-mod tests;
-#[cfg(test)]
-mod worked;

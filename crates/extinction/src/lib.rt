@@ -20,6 +20,3 @@ pub use laws::{
 };
 pub use persist::persistence;
 pub use report::{hierarchical_pieces, write_hierarchical};
-
-#[cfg(test)]
-mod tests;

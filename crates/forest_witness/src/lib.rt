@@ -5,6 +5,3 @@ mod forest;
 mod sums;
 
 pub use forest::witness;
-
-#[cfg(test)]
-mod tests;

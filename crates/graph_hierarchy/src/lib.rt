@@ -8,6 +8,3 @@ mod tiling;
 pub use fault::HierarchyFault;
 pub use hierarchy::GraphHierarchy;
 pub use tiling::Tiling;
-
-#[cfg(test)]
-mod tests;

@@ -11,6 +11,3 @@ mod texts;
 pub use ending::BatchStatus;
 pub use job_shift::{Hand, HandView, Job, Pair, Shift, run_jobs};
 pub use running::run_batch;
-
-#[cfg(test)]
-mod tests;

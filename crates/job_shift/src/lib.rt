@@ -17,6 +17,3 @@ pub use hand::Hand;
 pub use jobs::{Job, run_jobs};
 pub use shift::Shift;
 pub use view::{HandView, Pair};
-
-#[cfg(test)]
-mod tests;

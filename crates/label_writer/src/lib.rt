@@ -6,6 +6,3 @@ mod report;
 
 pub use picture::{LabelFault, push_header, push_sample, write_pgm};
 pub use report::{labels_pieces, write_labels};
-
-#[cfg(test)]
-mod tests;

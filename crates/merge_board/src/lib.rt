@@ -20,9 +20,6 @@ pub use board::Board;
 pub use receipt::Receipt;
 pub use seat::Seat;
 pub use seats::Seats;
-pub use serving::serve;
+pub use serving::{built, merged, serve};
 pub use view::View;
 pub use working::hierarchy;
-
-#[cfg(test)]
-mod tests;

@@ -57,8 +57,8 @@ pub fn serve<G: Gate>(board: &Board, plan: &Plan, seat: &mut Seat, gate: &G)
     }
 }
 
-// A tile's part with the tile's lot.
-pub(crate) fn built(plan: &Plan, tile: u32, part: Part) -> Part
+/// A tile's part, once the tile's lot was given to it: that is the part of the tile.
+pub fn built(plan: &Plan, tile: u32, part: Part) -> Part
     requires tile { tile < tile_count plan.now }
     requires opened { Opened plan.now tile part }
     ensures fits { Fits plan.now tile result }
@@ -68,8 +68,8 @@ pub(crate) fn built(plan: &Plan, tile: u32, part: Part) -> Part
     build_tile(part, tile, plan.lot(tile))
 }
 
-// Both halves of a merge with the merge's lot.
-pub(crate) fn merged(plan: &Plan, merge: u32, left_half: Part, right_half: Part) -> Part
+/// Both halves of a merge, joined by the merge's lot: that is the part of the merge.
+pub fn merged(plan: &Plan, merge: u32, left_half: Part, right_half: Part) -> Part
     requires merge { tile_count plan.now ≤ merge }
     requires part { merge < part_count plan.now }
     requires left { Fits plan.now (left plan.now merge) left_half }

@@ -362,6 +362,3 @@ fn put_in_front(free: FreeList, id: u32) -> FreeList
         tail,
     }
 }
-
-#[cfg(test)]
-mod tests;

@@ -12,7 +12,6 @@ pub mod RankByRank
 pub mod ListTree
 pub mod PlanTree
 pub mod PlanLots
-pub mod TestLemmas
 pub mod NearestStops
 pub mod ListTests
 pub mod ListsByNumber

@@ -24,6 +24,3 @@ pub use list::Ranked;
 pub use passes::{own_numbers, send_down};
 pub use report::{tree_pieces, write_tree};
 pub use tree::Tree;
-
-#[cfg(test)]
-mod tests;

@@ -6,6 +6,3 @@ mod numbers;
 mod zone_tree;
 
 pub use zone_tree::zones;
-
-#[cfg(test)]
-mod tests;

@@ -12,6 +12,3 @@ pub use lines::Lines;
 pub use pieces::{Pieces, write_pieces};
 pub use reports::{pieces_of, text_of};
 pub use writer::LineWriter;
-
-#[cfg(test)]
-mod tests;

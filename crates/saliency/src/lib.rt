@@ -10,6 +10,3 @@ pub use regions::cut;
 pub use report::{saliency_pieces, write_saliency};
 pub use roots::ends_share_roots;
 pub use values::{saliency, saliency_in_threads};
-
-#[cfg(test)]
-mod tests;

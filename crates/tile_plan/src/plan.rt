@@ -349,6 +349,3 @@ impl Plan {
         }
     }
 }
-
-#[cfg(test)]
-mod tests;

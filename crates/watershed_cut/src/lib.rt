@@ -15,6 +15,3 @@ pub use find::watershed;
 pub use laws::{forest_by_walks, labels_of_trees, least_forest, minima_by_walks, trees_of_minima};
 pub use minima::Minima;
 pub use report::{minima_pieces, watershed_pieces, write_minima, write_watershed};
-
-#[cfg(test)]
-mod worked;

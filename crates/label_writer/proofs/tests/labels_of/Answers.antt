@@ -1,9 +1,0 @@
-use Rattle.std.proofs.Common.{arith}
-use Rattle.label_writer.proofs.tests.labels_of.Goals as goal
-
-pub new-requires : goal.new-requires
-new-requires g c = record {
-  some = omega (arith, c.loop-label.invariant.count);
-  few = omega (arith, c.loop-label.invariant.count);
-  each = c.loop-label.invariant.each;
-}

@@ -1,0 +1,69 @@
+ghost use Rattle.std.specs.Prelude.{◌≡◌, length};
+ghost use Rattle.edge_laws.specs.Rank.{ranked};
+ghost use Rattle.partition_tree.specs.Ranked.{IsRankedList, edges_of};
+ghost use Rattle.report_tests.specs.Graphs.{graph_from};
+
+use crate::graphs::{APART, APART_ROWS, PATH, PATH_ROWS, graph_with};
+use attributes::{Attributes, attributes_pieces, write_attributes};
+use partition_tree::{Ranked, Tree};
+use std::alloc::Global;
+use std::process::Abort;
+use std::test::Fail;
+
+// The attributes of the graph with these areas and edges, of which the list is the same in order of rank.
+fn attributes(
+    rt: &impl Abort,
+    alloc: Global,
+    areas: &[u32],
+    rows: &[(u32, u32, u32)],
+    list: &[Ranked],
+) -> Result<Attributes, Fail>
+    requires list { IsRankedList (length areas.now) list.now }
+    requires ranked { edges_of list.now ≡ ranked (graph_from (length areas.now) areas.now rows.now) }
+{
+    let graph = graph_with(rt, alloc, areas, rows)?;
+    let tree = Tree::of_list(alloc, graph.n(), list)?;
+    Ok(Attributes::of(alloc, &graph, &tree)?)
+}
+
+#[test]
+fn reports(rt: HostRuntime) -> Result<(), Fail> {
+    let found = attributes(&rt, rt.alloc(), &[1, 1, 1, 1], &PATH_ROWS, &PATH)?;
+    let text = write_attributes(rt.alloc(), &found)?;
+    let report = "attributes 7\n0 1 0 0\n1 1 0 0\n2 1 0 0\n3 1 0 0\n4 2 8 4\n5 2 6 3\n6 4 14 4\n";
+    assert_eq!(rt; text.as_slice(), report.as_bytes());
+    let pieces = attributes_pieces(&rt, rt.alloc(), &found)?;
+    assert_eq!(rt; pieces.joined(rt.alloc())?.as_slice(), report.as_bytes());
+    let found = attributes(&rt, rt.alloc(), &[1], &[], &[])?;
+    let text = write_attributes(rt.alloc(), &found)?;
+    assert_eq!(rt; text.as_slice(), "attributes 1\n0 1 0 0\n".as_bytes());
+    let found = attributes(&rt, rt.alloc(), &[1, 1, 1], &APART_ROWS, &APART)?;
+    let text = write_attributes(rt.alloc(), &found)?;
+    let report = "attributes 4\n0 1 0 0\n1 1 0 0\n2 1 0 0\n3 2 0 0\n";
+    assert_eq!(rt; text.as_slice(), report.as_bytes());
+    Ok(())
+}
+
+#[test]
+fn reports_of_other_areas(rt: HostRuntime) -> Result<(), Fail> {
+    let found = attributes(&rt, rt.alloc(), &[1, 1, 1, 10], &PATH_ROWS, &PATH)?;
+    let text = write_attributes(rt.alloc(), &found)?;
+    let report =
+        "attributes 7\n0 1 0 0\n1 1 0 0\n2 1 0 0\n3 10 0 0\n4 2 8 4\n5 11 33 3\n6 13 41 4\n";
+    assert_eq!(rt; text.as_slice(), report.as_bytes());
+    let found = attributes(&rt, rt.alloc(), &[4096], &[], &[])?;
+    let text = write_attributes(rt.alloc(), &found)?;
+    assert_eq!(rt; text.as_slice(), "attributes 1\n0 4096 0 0\n".as_bytes());
+    Ok(())
+}
+
+#[test]
+fn readers(rt: HostRuntime) -> Result<(), Fail> {
+    let found = attributes(&rt, rt.alloc(), &[1, 1, 1, 10], &PATH_ROWS, &PATH)?;
+    assert!(rt; 5 < found.nodes());
+    assert_eq!(rt;
+        (found.area(5), found.volume(5), found.dynamics(5)),
+        (11, 33, 3)
+    );
+    Ok(())
+}

@@ -1,0 +1,133 @@
+ghost use Rattle.std.specs.Prelude.{◌≡◌, length};
+ghost use Rattle.edge_laws.specs.Rank.{ranked};
+ghost use Rattle.partition_tree.specs.Ranked.{IsRankedList, edges_of};
+ghost use Rattle.report_tests.specs.Graphs.{graph_from};
+
+use crate::graphs::{APART, APART_ROWS, PATH, PATH_ROWS, graph_with};
+use attributes::Attributes;
+use edge_order::Order;
+use extinction::{
+    Kind, extinctions, hierarchical, hierarchical_pieces, persistence, write_hierarchical,
+};
+use partition_tree::{Ranked, Tree};
+use std::alloc::Global;
+use std::process::Abort;
+use std::test::Fail;
+use std::thread::Threads;
+use watershed_cut::Minima;
+
+// Edges in order of number, two ends and a weight each, and the same in order of rank.
+const LONG_PATH: [(u32, u32, u32); 5] = [(0, 1, 1), (1, 2, 4), (2, 3, 2), (3, 4, 6), (4, 5, 1)];
+
+const RANKED_LONG_PATH: [Ranked; 5] = [
+    Ranked {
+        u: 0,
+        v: 1,
+        edge: 0,
+        altitude: 1,
+    },
+    Ranked {
+        u: 4,
+        v: 5,
+        edge: 4,
+        altitude: 1,
+    },
+    Ranked {
+        u: 2,
+        v: 3,
+        edge: 2,
+        altitude: 2,
+    },
+    Ranked {
+        u: 1,
+        v: 2,
+        edge: 1,
+        altitude: 4,
+    },
+    Ranked {
+        u: 3,
+        v: 4,
+        edge: 3,
+        altitude: 6,
+    },
+];
+
+// The persistences and the report of the hierarchical watershed of the graph with these areas and edges, of which the
+// list is the same in order of rank.
+fn found(
+    rt: &(impl Abort + Threads + Sync),
+    alloc: Global,
+    areas: &[u32],
+    rows: &[(u32, u32, u32)],
+    list: &[Ranked],
+    kind: Kind,
+) -> Result<(Vec<u64>, Vec<u8>), Fail>
+    requires list { IsRankedList (length areas.now) list.now }
+    requires ranked { edges_of list.now ≡ ranked (graph_from (length areas.now) areas.now rows.now) }
+{
+    let graph = graph_with(rt, alloc, areas, rows)?;
+    let order = Order::of(rt, alloc, &graph)?;
+    let tree = Tree::of_list(alloc, graph.n(), list)?;
+    let attributes = Attributes::of(alloc, &graph, &tree)?;
+    let minima = Minima::of(alloc, &graph, &order, &tree)?;
+    let values = persistence(alloc, &tree, &attributes, &minima, kind)?;
+    let ends = extinctions(alloc, &tree, &attributes, &minima, kind)?;
+    let hierarchy = hierarchical(alloc, &graph, &tree, &attributes, &minima, kind)?;
+    let text = write_hierarchical(alloc, &hierarchy, &ends)?;
+    let pieces = hierarchical_pieces(rt, alloc, &hierarchy, &ends)?;
+    assert_eq!(rt; pieces.joined(alloc)?.as_slice(), text.as_slice());
+    Ok((values, text))
+}
+
+#[test]
+fn a_path_by_each_kind(rt: HostRuntime) -> Result<(), Fail> {
+    let tree = "tree 7 4\n0 4 0\n1 4 0\n2 5 0\n3 5 0\n4 6 0\n5 6 0\n6 6 ";
+    let table = [
+        (Kind::Dynamics, 3, "3\nextinctions 2\n1 4\n2 3\n"),
+        (Kind::Volume, 6, "6\nextinctions 2\n1 14\n2 6\n"),
+        (Kind::Area, 2, "2\nextinctions 2\n1 4\n2 2\n"),
+    ];
+    for (kind, top, rest) in table {
+        let areas = [1, 1, 1, 1];
+        let (values, text) = found(&rt, rt.alloc(), &areas, &PATH_ROWS, &PATH, kind)?;
+        assert_eq!(rt; values.as_slice(), [0, 0, top].as_slice());
+        assert!(rt; text.starts_with(tree.as_bytes()));
+        assert!(rt; text.ends_with(rest.as_bytes()));
+        assert_eq!(rt; text.len(), tree.len() + rest.len());
+    }
+    Ok(())
+}
+
+#[test]
+fn the_greater_label_dies_on_a_tie(rt: HostRuntime) -> Result<(), Fail> {
+    let (_, text) = found(
+        &rt,
+        rt.alloc(),
+        &[1, 1, 1, 1, 1, 1],
+        &LONG_PATH,
+        &RANKED_LONG_PATH,
+        Kind::Dynamics,
+    )?;
+    let report =
+        "tree 11 6\n0 6 0\n1 6 0\n2 8 0\n3 8 0\n4 7 0\n5 7 0\n6 9 0\n7 10 0\n8 9 0\n9 10 2\n10 10 5\nextinctions 3\n1 5\n2 2\n3 5\n";
+    assert_eq!(rt; text.as_slice(), report.as_bytes());
+    Ok(())
+}
+
+#[test]
+fn several_roots_one_vertex_and_areas(rt: HostRuntime) -> Result<(), Fail> {
+    let alloc = rt.alloc();
+    let (_, text) = found(&rt, alloc, &[1, 1, 1], &APART_ROWS, &APART, Kind::Dynamics)?;
+    let report = "tree 4 3\n0 3 0\n1 3 0\n2 2 0\n3 3 0\nextinctions 2\n1 0\n2 0\n";
+    assert_eq!(rt; text.as_slice(), report.as_bytes());
+    let (_, text) = found(&rt, alloc, &[1], &[], &[], Kind::Dynamics)?;
+    assert_eq!(rt;
+        text.as_slice(),
+        b"tree 1 1\n0 0 0\nextinctions 1\n1 0\n".as_slice()
+    );
+    let (_, text) = found(&rt, alloc, &[1, 1, 1, 10], &PATH_ROWS, &PATH, Kind::Area)?;
+    let report =
+        "tree 7 4\n0 4 0\n1 4 0\n2 5 0\n3 5 0\n4 6 0\n5 6 0\n6 6 2\nextinctions 2\n1 2\n2 13\n";
+    assert_eq!(rt; text.as_slice(), report.as_bytes());
+    Ok(())
+}

@@ -1,6 +1,0 @@
-use Rattle.std.proofs.Common.{◌≡◌, All, length}
-use Rattle.hg_base.specs.Graph.{JoinsTwo}
-use Rattle.saliency.proofs.tests.graph.Given as goal
-
-abbrev pub invariant-loop-u : goal.invariant-loop-u
-invariant-loop-u g l = record { count : length l.edges.items ≡ l.u-index; ends : All (JoinsTwo l.n) l.edges.items }

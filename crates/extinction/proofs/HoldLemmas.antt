@@ -31,7 +31,7 @@ holds_minimum-from t m c few i label h = all-from (λ x. not (get_or m.vertices 
 pub holds_minimum-to : (t : ParentTree) (m : LabelledMinima) (i label : ℕ) → IsLabel m.count label → holds_minimum t m i label ≡ true → HoldsMinimum t m i label
 holds_minimum-to t m i label is h = record {
   minimum = is;
-  all = λ x hx same. elim (or_cases (not (get_or m.vertices x 0 == label)) (is_above t i x) (all-to (λ x'. not (get_or m.vertices x' 0 == label) || is_above t i x') (range_with_len 0 t.leaves) x h (range-from 0 t.leaves x (omega arith) (omega arith)))) [
+  all = λ x hx same. elim (or_cases (not (get_or m.vertices x 0 == label)) (is_above t i x) (all-to (λ x'. not (get_or m.vertices x' 0 == label) || is_above t i x') (range_with_len 0 t.leaves) h x (range-from 0 t.leaves x (omega arith) (omega arith)))) [
     | inl other ↦ absurd (both_ways _ (not-true _ other) (eq-eqb (get_or m.vertices x 0) label same))
     | inr over ↦ is_above-to t i x over
   ];

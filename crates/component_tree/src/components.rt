@@ -56,8 +56,8 @@ fn made(
     ensures components { (g : WeightedGraph) → graph.now ≡ weighed_graph side values.now g →
         IfOk result (λ tree. IsComponentTree side (value_at values.now) g.n (ranked g) tree) }
 {
-    // The graph and the values keep to their limits.
-    let _ = graph.n();
+    graph.keeps_its_rules();
+    // That the values keep to their limits.
     let _ = values.value(0);
     tree_of_nodes(alloc, values, side, tree)
 }

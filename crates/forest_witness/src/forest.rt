@@ -19,6 +19,6 @@ pub fn witness(graph: &Graph, minima: &Minima, watershed: &Watershed) -> u64
     ensures least { (f : List ℕ) → IsRooted graph.now f → result ≤ cost graph.now f }
 {
     let _ = minima;
-    let _ = graph.n();
+    graph.keeps_its_rules();
     total_weight(graph, watershed.forest())
 }

@@ -36,8 +36,7 @@ pub fn watershed(
     ensures least { IfOk result (λ watershed. IsWatershed graph.now watershed) }
 {
     let _ = order;
-    // That the graph keeps to its limits.
-    let _ = graph.n();
+    graph.keeps_its_rules();
     by_tree(alloc, graph, tree, minima).map_err(|_| OutOfMemory)
 }
 

@@ -62,7 +62,7 @@ holds-bottom g h i hi hold =
 pub bottom-holds : (g : WeightedGraph) → IsGraph g → (label q i : ℕ) → IsLabel (minimum_count g.n (ranked g)) label → IsBottom g label q → IsAbove (graph_tree g) i q → holding (graph_tree g) (minima_of g) i ≡ true
 bottom-holds g h label q i is b up =
     let o = of-graph g h in
-    holds-from (graph_tree g) (minima_of g) o.climbs (let k = o.forest.one_maker_each in omega (arith, k)) i label (record { minimum = is; all = λ x hx its. bottom-over g label q i b up x hx (sym (vertex-read g x hx) ∙ its) })
+    holds-from (graph_tree g) (minima_of g) o.climbs (let k = o.well_formed.one_maker_each in omega (arith, k)) i label (record { minimum = is; all = λ x hx its. bottom-over g label q i b up x hx (sym (vertex-read g x hx) ∙ its) })
 
 -- a leaf below a node
 leaf-of : (g : WeightedGraph) → IsGraph g → (label q : ℕ) → IsBottom g label q → (x : ℕ) × ((x < g.n) × IsAbove (graph_tree g) q x)

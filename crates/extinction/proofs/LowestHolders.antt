@@ -35,7 +35,7 @@ use Rattle.extinction.proofs.TreeFacts.{IsOfGraph, of-graph}
 
 -- the tree of a graph tells who is joined at each level
 pub levelled : (g : WeightedGraph) → IsGraph g → IsLevelled (graph_tree g) (ranked g)
-levelled g h = graph-levelled g (graph_tree g) refl (of-graph g h).forest (λ e he.
+levelled g h = graph-levelled g (graph_tree g) refl (of-graph g h).well_formed (λ e he.
     let ends = ends-within g h e he in record { first = ends.0; second = ends.1; apart = two g h e he })
   where
     two : (g : WeightedGraph) → IsGraph g → (e : ℕ) → e < length g.edges → first_end g e ≢ second_end g e
@@ -77,10 +77,10 @@ bottom-of g h x mx = (q, (record { node = above-within t o.climbs q (parent t x)
     hx = mx.vertex
 
     hp : parent t x < length t.parents
-    hp = o.climbs.within x (leaf-node t o.forest x hx)
+    hp = o.climbs.within x (leaf-node t o.well_formed x hx)
 
     found : (y : ℕ) → y < g.n → (j : ℕ) × IsPlateau t (parent t y) j
-    found y hy = top_found t o.climbs (altitude t (parent t y)) (length t.parents) (parent t y) (o.climbs.within y (leaf-node t o.forest y hy)) (omega arith) (omega arith)
+    found y hy = top_found t o.climbs (altitude t (parent t y)) (length t.parents) (parent t y) (o.climbs.within y (leaf-node t o.well_formed y hy)) (omega arith) (omega arith)
 
     q : ℕ
     q = (found x hx).0

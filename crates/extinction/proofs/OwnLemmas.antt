@@ -155,7 +155,7 @@ own-held g h i label hi p q is hold =
         let rises : c.0 ≤ parent t c.0 = o.climbs.rises c.0 hc in
         let up : parent t c.0 ≡ i = c.1.1.0 in
         let apart : c.0 ≢ i = c.1.1.1 in
-        let inner : t.leaves ≤ parent t c.0 = o.forest.inner c.0 hc (λ same. apart (sym same ∙ up)) in
+        let inner : t.leaves ≤ parent t c.0 = o.well_formed.inner c.0 hc (λ same. apart (sym same ∙ up)) in
         let own : is_child t i c.0 ≡ true = child-is t i c.0 up (λ same. apart (sym same ∙ up)) in
         let place = count_below (is_child t i) c.0 in
         let at : IsChildAt t i (count_below (is_child t i) c.0) c.0 = record { node = hc; parent_is = up; less = grind (arith, rises, up, apart); before = refl } in
@@ -191,7 +191,7 @@ own-all g h lowest lows k own end a = record {
         let is : IsLabel (minimum_count g.n (ranked g)) (suc found.0) = record { positive = omega arith; most = omega arith } in
         let b : IsBottom g (suc found.0) i = subst (IsBottom g (suc found.0)) found.1.1.0 (last-bottom g h (suc found.0) (get_or lowest found.0 0) is (lows.each found.0 hj)) in
         let o = of-graph g h in
-        let hold : holds_minimum (graph_tree g) (minima_of g) i (suc found.0) ≡ true = holds_minimum-from (graph_tree g) (minima_of g) o.climbs (let e = o.forest.one_maker_each in omega (arith, e)) i (suc found.0)
+        let hold : holds_minimum (graph_tree g) (minima_of g) i (suc found.0) ≡ true = holds_minimum-from (graph_tree g) (minima_of g) o.climbs (let e = o.well_formed.one_maker_each in omega (arith, e)) i (suc found.0)
         (record { minimum = is; all = λ x hx its. b.all x hx (sym (vertex-read g x hx) ∙ its) }) in
         found.1.1.1 ∙ sym (ap (λ (r : Option ℕ). unwrap_or r 0) (find-within (holds_minimum (graph_tree g) (minima_of g) i) 1 (minima_of g).count (suc found.0) (omega arith) (omega arith) hold
         (λ x low high held. bottom-one g h x (suc found.0) i (own-held g h i x hi p q (record { positive = low; most = omega arith }) held) b)))

@@ -46,7 +46,7 @@ floor-under g h label q i x some' b hx its up other =
       | inr high ↦ elim (above-next (graph_tree g) i q up) [
         | inl level ↦ absurd (other level)
         | inr over ↦
-            let nx = leaf-node (graph_tree g) o.forest x hx in
+            let nx = leaf-node (graph_tree g) o.well_formed x hx in
             let climb : altitude (graph_tree g) (parent (graph_tree g) q) ≤ altitude (graph_tree g) i = above-altitude (graph_tree g) o.climbs l.rise i (parent (graph_tree g) q) (o.climbs.within q b.node) over in
             let low : floor g x ≤ altitude (graph_tree g) (parent (graph_tree g) x) = floors-low g h.ends x x nx hx (0, refl) in
             omega (arith, climb, low, high)
@@ -76,7 +76,7 @@ worth-some g h kind c x hc hx over low = by kind
     t = graph_tree g
 
     there : IsIn x (vertices t c)
-    there = IsIn-filter (is_above t c) x (range_with_len 0 t.leaves) (is_above-from t (of-graph g h).climbs c x (leaf-node t (of-graph g h).forest x hx) over) (range-from 0 g.n x (omega arith) (omega arith))
+    there = IsIn-filter (is_above t c) x (range_with_len 0 t.leaves) (is_above-from t (of-graph g h).climbs c x (leaf-node t (of-graph g h).well_formed x hx) over) (range-from 0 g.n x (omega arith) (omega arith))
 
     by : (k : Kind) → 1 ≤ get_or (graph_values g k) c 0
     by kinds.Area = subst (λ (z : ℕ). 1 ≤ z) (sym (get_or-map-range_with_len (λ i. area_of g (vertices t i)) 0 (length t.parents) c c 0 hc (omega arith)))

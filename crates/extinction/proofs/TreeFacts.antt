@@ -33,14 +33,14 @@ of-graph g h =
       apart = apart;
       within = within;
       by_weight = AreByWeight-ranked g;
-      forest = forest;
+      well_formed = forest;
       climbs = well_formed-climbs (graph_tree g) forest;
       levels = level-tree g.n (ranked g) apart within (AreByWeight-ranked g);
     }
 
 -- the children of the node of a joining edge
 pub graph-children : (g : WeightedGraph) → IsOfGraph g → (e : ListedEdge) → IsIn e (joins (ranked g)) → (a : ℕ) × ((b : ℕ) × AreChildrenOf g.n (ranked g) e a b)
-graph-children g o e i = children-of g.n (ranked g) o.apart o.within e i o.forest o.levels.some_leaf
+graph-children g o e i = children-of g.n (ranked g) o.apart o.within e i o.well_formed o.levels.some_leaf
 
 -- an inner node has two children
 pub inner-two : (g : WeightedGraph) → IsGraph g → (i : ℕ) → g.n ≤ i → i < length (graph_tree g).parents → child_count (graph_tree g) i ≡ 2

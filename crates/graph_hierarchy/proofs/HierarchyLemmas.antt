@@ -23,7 +23,7 @@ use Rattle.graph_hierarchy.specs.declared.tiling.Tiling.TheVariants.{Blocks, Squ
 
 -- the tree of a graph
 pub tree_is : (g : WeightedGraph) (t : ParentTree) → IsGraph g → t ≡ graph_tree g → IsWellFormed t → IsTreeOf g t
-tree_is g t graph same forest = record { same = same; forest = forest; rises = subst AltitudesRise (sym same) (tree-rises g.n (ranked g) (AreApart-ranked g) (AreByWeight-ranked g)); graph = graph }
+tree_is g t graph same forest = record { same = same; well_formed = forest; rises = subst AltitudesRise (sym same) (tree-rises g.n (ranked g) (AreApart-ranked g) (AreByWeight-ranked g)); graph = graph }
 
 -- the plan of a graph is over its vertices and its ranked edges
 order-own : (g : WeightedGraph) (tiling : Tiling) → AreTiles tiling g.n → order_of g ≡ order_in (plan_in g tiling)

@@ -64,7 +64,7 @@ graph-levelled g t same f ends =
     let leaves : t.leaves ≡ g.n = ap (λ (u : ParentTree). u.leaves) same in
     let within : AreWithin g.n (ranked g) = λ e i. (let r = ranked-ends g ends e i in
     (let h : first_end g r.0 < g.n = r.1.0.first in omega (arith, h, r.1.1.0), let h : second_end g r.0 < g.n = r.1.0.second in omega (arith, h, r.1.1.1))) in record {
-      forest = f;
+      well_formed = f;
       rise = graph-rise g t same;
       levels = subst (λ (u : ParentTree). IsLevelTree u (ranked g)) (sym same) (level-tree g.n (ranked g) (AreApart-ranked g) within (AreByWeight-ranked g));
       first = λ e i. omega (arith, leaves, (within e i).0);

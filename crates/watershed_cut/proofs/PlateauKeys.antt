@@ -26,15 +26,15 @@ root-plateau t x j root p = root-alone t j x root (subst (λ (z : ℕ). IsAbove 
 -- that of another leaf is an inner node
 inner-plateau : (t : ParentTree) (s : EdgeList) → IsLevelled t s → (x j : ℕ) → x < t.leaves → (parent t x ≡ x → ⊥) → IsPlateau t (parent t x) j → t.leaves ≤ j
 inner-plateau t s l x j hx other p =
-    let c = well_formed-climbs t l.forest in
-    let nx = leaf-node t l.forest x hx in
-    let inner : t.leaves ≤ parent t x = l.forest.inner x nx other in
+    let c = well_formed-climbs t l.well_formed in
+    let nx = leaf-node t l.well_formed x hx in
+    let inner : t.leaves ≤ parent t x = l.well_formed.inner x nx other in
     let up : parent t x ≤ j = above-rises t c j (parent t x) (c.within x nx) p.above in omega arith
 
 -- a leaf is over no lower inner node
 leaf-over : (t : ParentTree) (s : EdgeList) → IsLevelled t s → (j : ℕ) → j < t.leaves → IsOverLower t j → ⊥
 leaf-over t s l j hj o =
-    let c = well_formed-climbs t l.forest in
+    let c = well_formed-climbs t l.well_formed in
     let i = o.0 in
     let inner : t.leaves ≤ i = o.1.0.inner in
     let up : i ≤ parent t i = c.rises i o.1.0.node in
@@ -43,8 +43,8 @@ leaf-over t s l j hj o =
 -- a leaf that is no root has an edge
 has-edge : (t : ParentTree) (s : EdgeList) → IsLevelled t s → (x : ℕ) → x < t.leaves → (parent t x ≡ x → ⊥) → HasNoEdge s x → ⊥
 has-edge t s l x hx other none' =
-    let c = well_formed-climbs t l.forest in
-    let f = edge-below t s l (parent t x) x (c.within x (leaf-node t l.forest x hx)) hx (1, refl) other in none' f.0 f.1.member f.1.at
+    let c = well_formed-climbs t l.well_formed in
+    let f = edge-below t s l (parent t x) x (c.within x (leaf-node t l.well_formed x hx)) hx (1, refl) other in none' f.0 f.1.member f.1.at
 
 -- a vertex in a minimum has a plateau that is over no lower inner node
 pub member-quiet : (t : ParentTree) (s : EdgeList) → IsLevelled t s → (x j : ℕ) → x < t.leaves → IsPlateau t (parent t x) j → InMinimum t.leaves s x → IsOverLower t j → ⊥
@@ -55,8 +55,8 @@ member-quiet t s l x j hx p m o = elim m.either [
   ]
   | inr e ↦
       let f = minimum-leaf t s l e.0 x e.1.0 e.1.1 in
-      let nx = leaf-node t l.forest x hx in
-      let c = well_formed-climbs t l.forest in
+      let nx = leaf-node t l.well_formed x hx in
+      let c = well_formed-climbs t l.well_formed in
       quiet-not t s l (altitude t (parent t x)) x j hx (top-parent t (altitude t (parent t x)) x j p) (plateau-altitude t c l.rise (parent t x) j (c.within x nx) p) o
       (subst (λ (k : ℕ). IsQuiet s k x) (sym f.level) (minimum-quiet s e.0 x e.1.0 e.1.1))
 ]
@@ -68,8 +68,8 @@ quiet-member t s l x j hx p none' = record {
   either = elim (cases_eq (parent t x) x) [
     | inl root ↦ inl (λ e i ends. let n = edge-node t s l e i in let inner : t.leaves ≤ n.0 = n.1.inner in let same : n.0 ≡ x = root-alone t n.0 x root (n.1.above x ends) in omega arith)
     | inr other ↦
-        let c = well_formed-climbs t l.forest in
-        let nx = leaf-node t l.forest x hx in
+        let c = well_formed-climbs t l.well_formed in
+        let nx = leaf-node t l.well_formed x hx in
         let k = altitude t (parent t x) in
         let q : IsQuiet s k x = quiet-from t s l k x j hx (top-parent t k x j p) (plateau-altitude t c l.rise (parent t x) j (c.within x nx) p) none' in
         let f = edge-below t s l (parent t x) x (c.within x nx) hx (1, refl) other in
@@ -124,13 +124,13 @@ same-plateau t s l x y i j hx hy px py m = elim m.joined [
 ]
   where
     c : IsClimbing t
-    c = well_formed-climbs t l.forest
+    c = well_formed-climbs t l.well_formed
 
     nx : x < length t.parents
-    nx = leaf-node t l.forest x hx
+    nx = leaf-node t l.well_formed x hx
 
     ny : y < length t.parents
-    ny = leaf-node t l.forest y hy
+    ny = leaf-node t l.well_formed y hy
 
 -- who has a key is in a minimum
 pub key-member : (t : ParentTree) (s : EdgeList) → IsLevelled t s → (keys : List (Option ℕ)) → ArePlateauKeys t t.leaves keys → (x : ℕ) → x < t.leaves → has_key keys x ≡ in_minimum t.leaves s x

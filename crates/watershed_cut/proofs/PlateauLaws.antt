@@ -59,7 +59,7 @@ top-below t s l k x j y hx hy top a = Joined-heavier s (altitude t j) k x y top.
 pub top-over : (t : ParentTree) (s : EdgeList) → IsLevelled t s → (k x j y : ℕ) → x < t.leaves → y < t.leaves → IsTop t k x j → Joined (at_most s k) x y → IsAbove t j y
 top-over t s l k x j y hx hy top w =
     let i = l.levels.one_above k x hx in
-    above-on t j i.0 y (top-above t (well_formed-climbs t l.forest) l.rise k x j i.0 (leaf-node t l.forest x hx) top (i.1.1 x hx ([], refl)) i.1.0) (i.1.1 y hy w)
+    above-on t j i.0 y (top-above t (well_formed-climbs t l.well_formed) l.rise k x j i.0 (leaf-node t l.well_formed x hx) top (i.1.1 x hx ([], refl)) i.1.0) (i.1.1 y hy w)
 
 -- a light edge at a vertex
 pub record IsLightEdge (s : EdgeList) (k x : ℕ) (e : ListedEdge) : Type 0 where
@@ -80,17 +80,17 @@ edge-below t s l i x hi hx a other = elim (least_below (λ y. is_above t i y && 
       let p = and_parts (is_above t i m.at) (not (m.at == x)) m.passes in
       let w = l.levels.joined_below i x m.at hx m.low a (is_above-to t i m.at p.0) in
       first-edge s (altitude t i) x w.0 m.at (λ same. eqb-false m.at x (not-true _ p.1) (sym same)) w.1
-  | inr none' ↦ absurd (other (l.levels.once i x hi (leaf-node t l.forest x hx) (λ y hy. (to none' y hy, from y hy))))
+  | inr none' ↦ absurd (other (l.levels.once i x hi (leaf-node t l.well_formed x hx) (λ y hy. (to none' y hy, from y hy))))
 ]
   where
     to : ((y : ℕ) → y < t.leaves → (is_above t i y && not (y == x)) ≡ false) → (y : ℕ) → y < t.leaves → IsAbove t i y → IsAbove t x y
     to none' y hy b = elim (cases_eq y x) [
       | inl same ↦ (0, same)
-      | inr unlike ↦ absurd (both_ways _ (none' y hy) (and_from _ _ (is_above-from t (well_formed-climbs t l.forest) i y (leaf-node t l.forest y hy) b) (not_from_false _ (ne_eqb y x unlike))))
+      | inr unlike ↦ absurd (both_ways _ (none' y hy) (and_from _ _ (is_above-from t (well_formed-climbs t l.well_formed) i y (leaf-node t l.well_formed y hy) b) (not_from_false _ (ne_eqb y x unlike))))
     ]
 
     from : (y : ℕ) → y < t.leaves → IsAbove t x y → IsAbove t i y
-    from y hy b = subst (λ (z : ℕ). IsAbove t i z) (sym (leaf-self t l.forest x y hx (leaf-node t l.forest y hy) b)) a
+    from y hy b = subst (λ (z : ℕ). IsAbove t i z) (sym (leaf-self t l.well_formed x y hx (leaf-node t l.well_formed y hy) b)) a
 
 -- an inner node above both ends of an edge, and no higher than it
 pub record IsEdgeNode (t : ParentTree) (e : ListedEdge) (i : ℕ) : Type 0 where
@@ -105,16 +105,16 @@ edge-node t s l e m =
     let i = n.0 in
     let au : IsAbove t i e.u = n.1.1 e.u (l.first e m) ([], refl) in
     let av : IsAbove t i e.v = n.1.1 e.v (l.second e m) (Joined-joined (at_most s e.weight) e.u e.v (joined-ends (at_most s e.weight) e (at_most-from s e.weight e m (omega arith)))) in
-    let hu = leaf-node t l.forest e.u (l.first e m) in
-    let hv = leaf-node t l.forest e.v (l.second e m) in (
+    let hu = leaf-node t l.well_formed e.u (l.first e m) in
+    let hv = leaf-node t l.well_formed e.v (l.second e m) in (
       i,
       record {
         light = n.1.0;
         inner = elim (cases_lt i t.leaves) [
-          | inl leaf ↦ absurd (l.apart e m (leaf-self t l.forest i e.u leaf hu au ∙ sym (leaf-self t l.forest i e.v leaf hv av)))
+          | inl leaf ↦ absurd (l.apart e m (leaf-self t l.well_formed i e.u leaf hu au ∙ sym (leaf-self t l.well_formed i e.v leaf hv av)))
           | inr inner' ↦ inner'
         ];
-        node = above-within t (well_formed-climbs t l.forest) i e.u hu au;
+        node = above-within t (well_formed-climbs t l.well_formed) i e.u hu au;
         above = λ x ends. end_above i au av x ends;
       },
     )
@@ -131,7 +131,7 @@ plateau-altitude t c rise i j h p = let low = p.low in let high = above-altitude
 drop-found : (t : ParentTree) (s : EdgeList) → IsLevelled t s → (k j d i : ℕ) → t.leaves ≤ i → i < length t.parents → altitude t i < k → ancestor t d i ≡ j → altitude t j ≡ k → IsTop t k j j → IsOverLower t j
 drop-found t s l k j zero i inner hi low e level top = absurd (let same : altitude t i ≡ altitude t j = ap (altitude t) e in omega arith)
 drop-found t s l k j (suc d) i inner hi low e level top =
-    let c = well_formed-climbs t l.forest in
+    let c = well_formed-climbs t l.well_formed in
     let p = parent t i in
     let hp : p < length t.parents = c.within i hi in
     let up : i ≤ p = c.rises i hi in
@@ -156,12 +156,12 @@ drop-found t s l k j (suc d) i inner hi low e level top =
 pub quiet-from : (t : ParentTree) (s : EdgeList) → IsLevelled t s → (k x j : ℕ) → x < t.leaves → IsTop t k x j → altitude t j ≡ k → (¬ IsOverLower t j) → IsQuiet s k x
 quiet-from t s l k x j hx top level none' y f w i ends = elim (cases_lt f.weight k) [
   | inl lower ↦
-      let c = well_formed-climbs t l.forest in
+      let c = well_formed-climbs t l.well_formed in
       let hy : y < t.leaves = end-leaf t s l f y i ends in
       let n = edge-node t s l f i in
       let light : altitude t n.0 ≤ f.weight = n.1.light in
       let a : IsAbove t j y = top-over t s l k x j y hx hy top w in
-      let hj : j < length t.parents = above-within t c j x (leaf-node t l.forest x hx) top.above in
+      let hj : j < length t.parents = above-within t c j x (leaf-node t l.well_formed x hx) top.above in
       elim (above-either t j n.0 y a (n.1.above y ends)) [
         | inl over ↦ absurd (none' (drop-found t s l k j over.0 n.0 n.1.inner n.1.node (omega arith) over.1 level (record { above = (0, refl); low = top.low; last = top.last })))
         | inr under ↦ absurd (let high : altitude t j ≤ altitude t n.0 = above-altitude t c l.rise n.0 j hj under in omega arith)
@@ -172,7 +172,7 @@ quiet-from t s l k x j hx top level none' y f w i ends = elim (cases_lt f.weight
 -- and where it is over one, it isn't
 pub quiet-not : (t : ParentTree) (s : EdgeList) → IsLevelled t s → (k x j : ℕ) → x < t.leaves → IsTop t k x j → altitude t j ≡ k → IsOverLower t j → IsQuiet s k x → ⊥
 quiet-not t s l k x j hx top level o q =
-    let c = well_formed-climbs t l.forest in
+    let c = well_formed-climbs t l.well_formed in
     let i = o.0 in
     let drop' = o.1.0 in
     let y = l.levels.some_leaf i drop'.node in
@@ -193,9 +193,9 @@ pub record IsMinimumLeaf (t : ParentTree) (x k : ℕ) : Type 0 where
 
 pub minimum-leaf : (t : ParentTree) (s : EdgeList) → IsLevelled t s → (e : ListedEdge) (x : ℕ) → IsMinimumEdge s e → IsEnd x e → IsMinimumLeaf t x e.weight
 minimum-leaf t s l e x m ends =
-    let c = well_formed-climbs t l.forest in
+    let c = well_formed-climbs t l.well_formed in
     let hx : x < t.leaves = end-leaf t s l e x m.member ends in
-    let nx = leaf-node t l.forest x hx in
+    let nx = leaf-node t l.well_formed x hx in
     let n = edge-node t s l e m.member in
     let inner : t.leaves ≤ n.0 = n.1.inner in
     let a = n.1.above x ends in

@@ -22,4 +22,4 @@ ends-share g graph forest e h =
     (above.1.1 (first_end g e) ends.0 ([], refl), above.1.1 (second_end g e) ends.1 (saliency-is g e h).joins)
 
 pub shared_roots : (g : WeightedGraph) (t : ParentTree) → IsTreeOf g t → EndsShareRoots g t
-shared_roots g t is = subst (λ (u : ParentTree). EndsShareRoots g u) (sym is.same) (ends-share g is.graph (subst IsWellFormed is.same is.forest))
+shared_roots g t is = subst (λ (u : ParentTree). EndsShareRoots g u) (sym is.same) (ends-share g is.graph (subst IsWellFormed is.same is.well_formed))

@@ -1,5 +1,5 @@
 -- Graphs: vertices 0 to n - 1 with areas, and a list of edges with weights. An edge's number is its place in the list.
-use Rattle.std.specs.Prelude.{◌≡◌, ◌≢◌, ℕ, ◌<◌, ◌≤◌, List, length, replicate, All, slice_get}
+use Rattle.std.specs.Prelude.{◌≡◌, ◌≢◌, ℕ, ◌<◌, ◌≤◌, ◌^◌, List, length, replicate, All, slice_get}
 use Rattle.std.specs.Option.{option_map_or}
 use Rattle.hg_base.specs.declared.graph.Edge.{Edge}
 
@@ -24,6 +24,10 @@ pub record IsGraph (g : WeightedGraph) : Type 0 where
   pub small_areas : All (λ a. a ≤ 4096) g.areas
   pub edges : length g.edges ≤ 4194304
   pub ends : All (JoinsTwo g.n) g.edges
+
+-- each weight is a number of 32 bits
+abbrev pub AreLight : List Edge → Type 0
+AreLight edges = All (λ e. e.w < 2 ^ 32) edges
 
 -- the graph whose areas are all 1
 abbrev pub with_unit_areas : ℕ → List Edge → WeightedGraph

@@ -1,5 +1,5 @@
 ghost use Rattle.std.specs.Prelude.{◌≡◌, ◌↔◌, ℕ, ◌<◌, ◌≤◌, length, slice_get, Some, All, IfOk, IfErr, IsOk};
-ghost use Rattle.hg_base.specs.Graph.{IsGraph, JoinsTwo, with_unit_areas};
+ghost use Rattle.hg_base.specs.Graph.{AreLight, IsGraph, JoinsTwo, with_unit_areas};
 ghost use Rattle.hg_base.specs.GraphFaults.{IsGraphFault};
 
 use super::graph_fault::{GraphFault, first_fault};
@@ -52,11 +52,11 @@ impl Model for Graph {
 
     ghost Value = { WeightedGraph };
 
-    ghost use Rattle.hg_base.specs.GraphFields.{graph_of, IsGraph};
+    ghost use Rattle.hg_base.specs.GraphFields.{graph_in, AreOfGraph};
 
-    ghost view = { graph_of };
+    ghost view = { graph_in };
 
-    ghost invariant = { λ g. IsGraph (graph_of g) };
+    ghost invariant = { AreOfGraph };
 }
 
 impl Graph {
@@ -65,6 +65,7 @@ impl Graph {
         requires { IsGraph (with_unit_areas n edges.items) }
         ensures { result ≡ with_unit_areas n edges.items }
     {
+        read_weights(&edges);
         Graph {
             n,
             areas: None,
@@ -91,6 +92,7 @@ impl Graph {
         requires { IsGraph (record { n = n; areas = areas.items; edges = edges.items }) }
         ensures { result ≡ record { n = n; areas = areas.items; edges = edges.items } }
     {
+        read_weights(&edges);
         Graph {
             n,
             areas: Some(areas),
@@ -98,12 +100,15 @@ impl Graph {
         }
     }
 
-    /// Does nothing. It stands where only this is needed: the graph keeps to its limits, `IsGraph`.
+    /// Does nothing. It stands where only this is needed: the graph keeps to its limits, `IsGraph`, and each weight is a
+    /// number of 32 bits.
     #[inline(always)]
     pub fn keeps_its_rules(&self)
         ensures graph { IsGraph self.now }
+        ensures light { AreLight self.now.edges }
         ensures some_vertex { 1 ≤ self.now.n }
         ensures vertices { self.now.n ≤ 1048576 }
+        ensures edges { length self.now.edges ≤ 4194304 }
     {
         let _ = &self.n;
     }
@@ -131,6 +136,7 @@ impl Graph {
         ensures value { result.now ≡ self.now.edges }
         ensures edges { length result.now ≤ 4194304 }
         ensures ends { All (JoinsTwo self.now.n) result.now }
+        ensures light { AreLight result.now }
     {
         &self.edges
     }
@@ -156,4 +162,22 @@ impl Graph {
             None => 1,
         }
     }
+}
+
+// Reads each edge: its weight is a number of 32 bits.
+fn read_weights(edges: &[Edge])
+    ensures { AreLight edges.now }
+{
+    for e in 0..edges.len() {
+        let _ = edge_at(edges, e);
+    }
+}
+
+// The edge at a place of a list.
+#[inline(always)]
+fn edge_at(edges: &[Edge], e: usize) -> Edge
+    requires { e < length edges.now }
+    ensures { slice_get edges.now e ≡ Some result }
+{
+    edges[e]
 }

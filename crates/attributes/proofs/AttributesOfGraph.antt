@@ -9,14 +9,14 @@ use Rattle.tree_laws.specs.Levels.{is_above}
 use Rattle.partition_tree.specs.TreeLists.{nodes}
 use Rattle.attributes.specs.declared.gather.Operation.TheVariants as operations
 use Rattle.attributes.specs.Gathering.{gathered, neutral, AreOfLeaves}
-use Rattle.attributes.specs.Attributes.{AttributeLists, area, floor, vertices, area_of, volume_under, dynamics_under, altitude_over, node_numbers, attributes_in, attributes_of}
+use Rattle.attributes.specs.Attributes.{AttributeLists, area, floor, vertices_below, area_of, volume_under, dynamics_under, altitude_over, node_numbers, attributes_in, attributes_of}
 use Rattle.attributes.specs.AttributesFields.{AreOfNodes}
 use Rattle.attributes.specs.Floors.{IsRead}
 use Rattle.attributes.specs.Sums.{AreSums}
 use Rattle.attributes.proofs.Gathers.{sum-part, least-low}
 use Rattle.attributes.proofs.LowFloors.{floor-small}
 use Rattle.partition_tree.proofs.ListsByNumber.{values-agree}
-use Rattle.attributes.proofs.Totals.{IsTreeOf, floors-in, sums-are, lowest-is, lowest-low, balance, sum-bound}
+use Rattle.attributes.proofs.Totals.{HasGraphTree, floors-in, sums-are, lowest-is, lowest-low, balance, sum-bound}
 
 -- the values of the leaves
 pub record AreLeafValues (g : WeightedGraph) (t : ParentTree) (floors areas products : List ℕ) : Type 0 where
@@ -63,7 +63,7 @@ pub leaf-length : (f : ℕ → ℕ) (n : ℕ) (values slice : List ℕ) → valu
 leaf-length f n values slice made same = ap (λ (xs : List ℕ). length xs) (same ∙ made) ∙ length-map-range_with_len f 0 n
 
 -- the areas sum to at most 2 ^ 32
-areas-bound : (g : WeightedGraph) (t : ParentTree) (floors areas products : List ℕ) → IsTreeOf g t → AreLeafValues g t floors areas products →
+areas-bound : (g : WeightedGraph) (t : ParentTree) (floors areas products : List ℕ) → HasGraphTree g t → AreLeafValues g t floors areas products →
     gathered operations.Sum (λ x. get_or areas x 0) (range_with_len 0 t.leaves) ≤ 4294967296
 areas-bound g t floors areas products k v =
     let bound : gathered operations.Sum (λ x. get_or areas x 0) (range_with_len 0 t.leaves) ≤ t.leaves * 4096 =
@@ -72,14 +72,14 @@ areas-bound g t floors areas products k v =
     omega (arith, bound, k.well_formed.few_leaves)
 
 -- so their sum fits
-pub areas-fit : (g : WeightedGraph) (t : ParentTree) (floors areas products slice : List ℕ) → IsTreeOf g t → AreLeafValues g t floors areas products → slice ≡ areas →
+pub areas-fit : (g : WeightedGraph) (t : ParentTree) (floors areas products slice : List ℕ) → HasGraphTree g t → AreLeafValues g t floors areas products → slice ≡ areas →
     gathered operations.Sum (λ x. get_or slice x 0) (range_with_len 0 t.leaves) < 2 ^ 64
 areas-fit g t floors areas products slice k v same =
     subst (λ (xs : List ℕ). gathered operations.Sum (λ x. get_or xs x 0) (range_with_len 0 t.leaves) < 2 ^ 64) (sym same)
     (let bound = areas-bound g t floors areas products k v in omega (arith, bound))
 
 -- the products sum to less than 2 ^ 64
-pub products-fit : (g : WeightedGraph) (t : ParentTree) (floors areas products slice : List ℕ) → IsTreeOf g t → AreLeafValues g t floors areas products → slice ≡ products →
+pub products-fit : (g : WeightedGraph) (t : ParentTree) (floors areas products slice : List ℕ) → HasGraphTree g t → AreLeafValues g t floors areas products → slice ≡ products →
     gathered operations.Sum (λ x. get_or slice x 0) (range_with_len 0 t.leaves) < 2 ^ 64
 products-fit g t floors areas products slice k v same =
     let each : (x : ℕ) → x < t.leaves → get_or products x 0 ≤ 17592186040320 =
@@ -95,7 +95,7 @@ pub lowest-fit : (f : ℕ → ℕ) (xs : List ℕ) → gathered operations.Least
 lowest-fit f xs = let low = least-low (neutral operations.Least) (map f xs) in omega (arith, low)
 
 -- the sums of the nodes
-pub node-values : (g : WeightedGraph) (t : ParentTree) (floors areas products floor_slice area_slice product_slice node_areas sums lowest : List ℕ) → IsTreeOf g t → AreLeafValues g t floors areas products →
+pub node-values : (g : WeightedGraph) (t : ParentTree) (floors areas products floor_slice area_slice product_slice node_areas sums lowest : List ℕ) → HasGraphTree g t → AreLeafValues g t floors areas products →
     area_slice ≡ areas → product_slice ≡ products → floor_slice ≡ floors →
     AreOfLeaves operations.Sum t area_slice node_areas → AreOfLeaves operations.Sum t product_slice sums → AreOfLeaves operations.Least t floor_slice lowest →
     AreSums g t node_areas sums lowest
@@ -115,7 +115,7 @@ node-values g t floors areas products floor_slice area_slice product_slice node_
 }
 
 -- altitude times area fits 64 bits
-pub volumes-fit : (g : WeightedGraph) (t : ParentTree) (areas sums lowest slice : List ℕ) → IsTreeOf g t → AreSums g t areas sums lowest → slice ≡ areas → (i : ℕ) → i < nodes t →
+pub volumes-fit : (g : WeightedGraph) (t : ParentTree) (areas sums lowest slice : List ℕ) → HasGraphTree g t → AreSums g t areas sums lowest → slice ≡ areas → (i : ℕ) → i < nodes t →
     altitude_over t i * get_or slice i 0 < 2 ^ 64
 volumes-fit g t areas sums lowest slice k v same i h =
     let light : altitude_over t i ≤ 4294967295 = (let p = k.small (parent t i) (k.well_formed.within i h) in omega (arith, p)) in
@@ -124,15 +124,15 @@ volumes-fit g t areas sums lowest slice k v same i h =
     omega (arith, product)
 
 -- volume and sum of products are altitude times area
-node-balance : (g : WeightedGraph) (t : ParentTree) (areas sums lowest : List ℕ) → IsTreeOf g t → AreSums g t areas sums lowest → (i : ℕ) → i < nodes t →
-    volume_under g (altitude_over t i) (vertices t i) + get_or sums i 0 ≡ altitude_over t i * get_or areas i 0
+node-balance : (g : WeightedGraph) (t : ParentTree) (areas sums lowest : List ℕ) → HasGraphTree g t → AreSums g t areas sums lowest → (i : ℕ) → i < nodes t →
+    volume_under g (altitude_over t i) (vertices_below t i) + get_or sums i 0 ≡ altitude_over t i * get_or areas i 0
 node-balance g t areas sums lowest k v i h =
-    ap (λ (y : ℕ). volume_under g (altitude_over t i) (vertices t i) + y) (v.products_are i h)
-    ∙ balance g (altitude_over t i) (vertices t i) (floors-in g t k i h)
+    ap (λ (y : ℕ). volume_under g (altitude_over t i) (vertices_below t i) + y) (v.products_are i h)
+    ∙ balance g (altitude_over t i) (vertices_below t i) (floors-in g t k i h)
     ∙ ap (λ (y : ℕ). altitude_over t i * y) (sym (v.areas_are i h))
 
 -- so the sum of products is no more than altitude times area
-pub volumes-low : (g : WeightedGraph) (t : ParentTree) (areas sums lowest area_slice sum_slice : List ℕ) → IsTreeOf g t → AreSums g t areas sums lowest → area_slice ≡ areas → sum_slice ≡ sums → (i : ℕ) → i < nodes t →
+pub volumes-low : (g : WeightedGraph) (t : ParentTree) (areas sums lowest area_slice sum_slice : List ℕ) → HasGraphTree g t → AreSums g t areas sums lowest → area_slice ≡ areas → sum_slice ≡ sums → (i : ℕ) → i < nodes t →
     get_or sum_slice i 0 ≤ altitude_over t i * get_or area_slice i 0
 volumes-low g t areas sums lowest area_slice sum_slice k v same_areas same_sums i h =
     let e = node-balance g t areas sums lowest k v i h in
@@ -141,7 +141,7 @@ volumes-low g t areas sums lowest area_slice sum_slice k v same_areas same_sums 
     (subst (λ (xs : List ℕ). get_or sums i 0 ≤ altitude_over t i * get_or xs i 0) (sym same_areas) low)
 
 -- and the lowest floor is no higher than the altitude
-pub dynamics-low : (g : WeightedGraph) (t : ParentTree) (areas sums lowest slice : List ℕ) → IsTreeOf g t → AreSums g t areas sums lowest → slice ≡ lowest → (i : ℕ) → i < nodes t →
+pub dynamics-low : (g : WeightedGraph) (t : ParentTree) (areas sums lowest slice : List ℕ) → HasGraphTree g t → AreSums g t areas sums lowest → slice ≡ lowest → (i : ℕ) → i < nodes t →
     get_or slice i 0 ≤ altitude_over t i
 dynamics-low g t areas sums lowest slice k v same i h =
     subst (λ (xs : List ℕ). get_or xs i 0 ≤ altitude_over t i) (sym same)
@@ -157,14 +157,14 @@ pub record AreMade (g : WeightedGraph) (lists : AttributeLists) : Type 0 where
   pub fit : AreOfNodes lists
 
 -- the areas, and what was made of altitudes and sums, are the attributes
-pub attributes-made : (g : WeightedGraph) (t : ParentTree) (areas sums lowest volumes dynamics area_slice sum_slice lowest_slice : List ℕ) → t ≡ graph_tree g → IsTreeOf g t → AreSums g t areas sums lowest →
+pub attributes-made : (g : WeightedGraph) (t : ParentTree) (areas sums lowest volumes dynamics area_slice sum_slice lowest_slice : List ℕ) → t ≡ graph_tree g → HasGraphTree g t → AreSums g t areas sums lowest →
     area_slice ≡ areas → sum_slice ≡ sums → lowest_slice ≡ lowest →
     volumes ≡ map (λ i. altitude_over t i * get_or area_slice i 0 - get_or sum_slice i 0) (node_numbers t) → dynamics ≡ map (λ i. altitude_over t i - get_or lowest_slice i 0) (node_numbers t) →
     AreMade g (record { areas = areas; volumes = volumes; dynamics = dynamics })
 attributes-made g t areas sums lowest volumes dynamics area_slice sum_slice lowest_slice same k v same_areas same_sums same_lowest volumes_made dynamics_made = record {
   result = ap (λ (xs : List ℕ). three_lists xs volumes dynamics) areas_are
-      ∙ ap (λ (xs : List ℕ). three_lists (map (λ i. area_of g (vertices t i)) (node_numbers t)) xs dynamics) volumes_are
-      ∙ ap (three_lists (map (λ i. area_of g (vertices t i)) (node_numbers t)) (map (λ i. volume_under g (altitude_over t i) (vertices t i)) (node_numbers t))) dynamics_are
+      ∙ ap (λ (xs : List ℕ). three_lists (map (λ i. area_of g (vertices_below t i)) (node_numbers t)) xs dynamics) volumes_are
+      ∙ ap (three_lists (map (λ i. area_of g (vertices_below t i)) (node_numbers t)) (map (λ i. volume_under g (altitude_over t i) (vertices_below t i)) (node_numbers t))) dynamics_are
       ∙ ap (attributes_in g) same;
   fit = record {
     few = (let long = v.one_area_each in let most = k.well_formed.small in omega (arith, long, most));
@@ -173,25 +173,25 @@ attributes-made g t areas sums lowest volumes dynamics area_slice sum_slice lowe
   };
 }
   where
-    areas_are : areas ≡ map (λ i. area_of g (vertices t i)) (node_numbers t)
-    areas_are = fill_by_all (λ i. area_of g (vertices t i)) areas (nodes t) 0 v.one_area_each v.areas_are
+    areas_are : areas ≡ map (λ i. area_of g (vertices_below t i)) (node_numbers t)
+    areas_are = fill_by_all (λ i. area_of g (vertices_below t i)) areas (nodes t) 0 v.one_area_each v.areas_are
 
     depth : (a b c : ℕ) → a + b ≡ c → c - b ≡ a
     depth a b c e = omega arith
 
-    volumes_are : volumes ≡ map (λ i. volume_under g (altitude_over t i) (vertices t i)) (node_numbers t)
+    volumes_are : volumes ≡ map (λ i. volume_under g (altitude_over t i) (vertices_below t i)) (node_numbers t)
     volumes_are =
         volumes_made
-        ∙ values-agree (λ i. altitude_over t i * get_or area_slice i 0 - get_or sum_slice i 0) (λ i. volume_under g (altitude_over t i) (vertices t i)) (nodes t)
+        ∙ values-agree (λ i. altitude_over t i * get_or area_slice i 0 - get_or sum_slice i 0) (λ i. volume_under g (altitude_over t i) (vertices_below t i)) (nodes t)
         (λ i h.
         ap (λ (xs : List ℕ). altitude_over t i * get_or xs i 0 - get_or sum_slice i 0) same_areas
         ∙ ap (λ (xs : List ℕ). altitude_over t i * get_or areas i 0 - get_or xs i 0) same_sums
-        ∙ depth (volume_under g (altitude_over t i) (vertices t i)) (get_or sums i 0) (altitude_over t i * get_or areas i 0) (node-balance g t areas sums lowest k v i h))
+        ∙ depth (volume_under g (altitude_over t i) (vertices_below t i)) (get_or sums i 0) (altitude_over t i * get_or areas i 0) (node-balance g t areas sums lowest k v i h))
 
-    dynamics_are : dynamics ≡ map (λ i. dynamics_under g (altitude_over t i) (vertices t i)) (node_numbers t)
+    dynamics_are : dynamics ≡ map (λ i. dynamics_under g (altitude_over t i) (vertices_below t i)) (node_numbers t)
     dynamics_are =
         dynamics_made
-        ∙ values-agree (λ i. altitude_over t i - get_or lowest_slice i 0) (λ i. dynamics_under g (altitude_over t i) (vertices t i)) (nodes t)
+        ∙ values-agree (λ i. altitude_over t i - get_or lowest_slice i 0) (λ i. dynamics_under g (altitude_over t i) (vertices_below t i)) (nodes t)
         (λ i h.
         ap (λ (xs : List ℕ). altitude_over t i - get_or xs i 0) same_lowest
         ∙ ap (λ (y : ℕ). altitude_over t i - y) (v.lowest_are i h))

@@ -20,14 +20,14 @@ use Rattle.partition_tree.proofs.TreeLemmas.{tree-well_formed}
 use Rattle.partition_tree.proofs.WellFormed.{well_formed-climbs, well_formed-leaves}
 use Rattle.attributes.specs.declared.gather.Operation.TheVariants as operations
 use Rattle.attributes.specs.Gathering.{combined, neutral, gathered, AreOfLeaves}
-use Rattle.attributes.specs.Attributes.{area, floor, least, vertices, area_of, volume_under, altitude_over}
+use Rattle.attributes.specs.Attributes.{area, floor, least, vertices_below, area_of, volume_under, altitude_over}
 use Rattle.attributes.specs.Floors.{IsRead}
 use Rattle.attributes.proofs.Gathers.{gathered-agree}
 use Rattle.attributes.proofs.LowFloors.{floors-low, altitudes-small, within-ranked, least-le, in-mapped}
 use Rattle.partition_tree.proofs.ListTests.{range-to, range-from}
 
 -- what the tree of a graph keeps to
-pub record IsTreeOf (g : WeightedGraph) (t : ParentTree) : Type 0 where
+pub record HasGraphTree (g : WeightedGraph) (t : ParentTree) : Type 0 where
   pub well_formed : IsWellFormed t
   pub leaves : t.leaves ≡ g.n
   pub some_leaf : (i : ℕ) → i < nodes t → (x : ℕ) × ((x < t.leaves) × IsAbove t i x)
@@ -35,10 +35,10 @@ pub record IsTreeOf (g : WeightedGraph) (t : ParentTree) : Type 0 where
   pub small : (j : ℕ) → j < nodes t → altitude t j < 2 ^ 32
 
 -- so it is for every graph that was read
-pub tree-of_graph : (g : WeightedGraph) (t : ParentTree) → t ≡ graph_tree g → IsRead g → IsTreeOf g t
+pub tree-of_graph : (g : WeightedGraph) (t : ParentTree) → t ≡ graph_tree g → IsRead g → HasGraphTree g t
 tree-of_graph g t same read =
     let ends = read.edges.ends in
-    subst (IsTreeOf g) (sym same) (record {
+    subst (HasGraphTree g) (sym same) (record {
       well_formed = tree-well_formed g.n (ranked g) read.some_vertex read.vertices (AreApart-ranked g) (within-ranked g ends);
       leaves = refl;
       some_leaf = (level-tree g.n (ranked g) (AreApart-ranked g) (within-ranked g ends) (AreByWeight-ranked g)).some_leaf;
@@ -47,29 +47,29 @@ tree-of_graph g t same read =
     })
 
 -- the vertices of a node are the leaves below it
-pub vertex-in : (t : ParentTree) (i x : ℕ) → IsIn x (vertices t i) → (x < t.leaves) × IsAbove t i x
+pub vertex-in : (t : ParentTree) (i x : ℕ) → IsIn x (vertices_below t i) → (x < t.leaves) × IsAbove t i x
 vertex-in t i x m =
     let kept = IsIn-kept (is_above t i) x (range_with_len 0 t.leaves) m in
     (let low : x < 0 + t.leaves = (range-to 0 t.leaves x kept.1).1 in omega (arith, low), is_above-to t i x kept.0)
 
 -- a node has a vertex
-vertex-some : (t : ParentTree) → IsWellFormed t → (i x : ℕ) → x < t.leaves → IsAbove t i x → IsIn x (vertices t i)
+vertex-some : (t : ParentTree) → IsWellFormed t → (i x : ℕ) → x < t.leaves → IsAbove t i x → IsIn x (vertices_below t i)
 vertex-some t f i x h a =
     let few = well_formed-leaves t f in
     IsIn-filter (is_above t i) x (range_with_len 0 t.leaves) (is_above-from t (well_formed-climbs t f) i x (omega arith) a) (range-from 0 t.leaves x (omega arith) (omega arith))
 
 -- the floors of a node's vertices are no higher than the altitude over it
-pub floors-in : (g : WeightedGraph) (t : ParentTree) → IsTreeOf g t → (i : ℕ) → i < nodes t → (x : ℕ) → IsIn x (vertices t i) → floor g x ≤ altitude_over t i
+pub floors-in : (g : WeightedGraph) (t : ParentTree) → HasGraphTree g t → (i : ℕ) → i < nodes t → (x : ℕ) → IsIn x (vertices_below t i) → floor g x ≤ altitude_over t i
 floors-in g t k i h x m = let v = vertex-in t i x m in k.low i x h v.0 v.1
 
 -- the values of a node's leaves, put together, by a function of the vertex
 pub sums-are : (t : ParentTree) (f : ℕ → ℕ) (values sums : List ℕ) → AreOfLeaves operations.Sum t values sums → values ≡ map f (range_with_len 0 t.leaves) → (i : ℕ) → i < nodes t →
-    get_or sums i 0 ≡ sum_by f (vertices t i)
+    get_or sums i 0 ≡ sum_by f (vertices_below t i)
 sums-are t f values sums a made i h =
     a.each i h
     ∙ gathered-agree operations.Sum (λ x. get_or values x 0) f (is_above t i) (is_above t i) t.leaves (λ x l. refl)
     (λ x l. ap (λ (xs : List ℕ). get_or xs x 0) made ∙ get_or-map-range_with_len f 0 t.leaves x x 0 l (omega arith))
-    ∙ fold-map (combined operations.Sum) f 0 (vertices t i)
+    ∙ fold-map (combined operations.Sum) f 0 (vertices_below t i)
 
 -- the least of 64-bit numbers and the greatest of them is their least
 least-all : (ks : List ℕ) (k : ℕ) → IsIn k ks → ((j : ℕ) → IsIn j ks → j < 2 ^ 64) → fold min (neutral operations.Least) ks ≡ least ks
@@ -86,26 +86,26 @@ in-mapped_back f (x ∷ xs) y (inl same) = (x, (inl refl, same))
 in-mapped_back f (x ∷ xs) y (inr later) = let r = in-mapped_back f xs y later in (r.0, (inr r.1.0, r.1.1))
 
 -- the least of the floors of a node's leaves
-pub lowest-is : (g : WeightedGraph) (t : ParentTree) → IsTreeOf g t → (values lowest : List ℕ) → AreOfLeaves operations.Least t values lowest → values ≡ map (floor g) (range_with_len 0 t.leaves) → (i : ℕ) → i < nodes t →
-    get_or lowest i 0 ≡ least (map (floor g) (vertices t i))
+pub lowest-is : (g : WeightedGraph) (t : ParentTree) → HasGraphTree g t → (values lowest : List ℕ) → AreOfLeaves operations.Least t values lowest → values ≡ map (floor g) (range_with_len 0 t.leaves) → (i : ℕ) → i < nodes t →
+    get_or lowest i 0 ≡ least (map (floor g) (vertices_below t i))
 lowest-is g t k values lowest a made i h =
     let some = k.some_leaf i h in
     a.each i h
     ∙ gathered-agree operations.Least (λ x. get_or values x 0) (floor g) (is_above t i) (is_above t i) t.leaves (λ x l. refl)
     (λ x l. ap (λ (xs : List ℕ). get_or xs x 0) made ∙ get_or-map-range_with_len (floor g) 0 t.leaves x x 0 l (omega arith))
-    ∙ least-all (map (floor g) (vertices t i)) (floor g some.0) (in-mapped (floor g) (vertices t i) some.0 (vertex-some t k.well_formed i some.0 some.1.0 some.1.1))
+    ∙ least-all (map (floor g) (vertices_below t i)) (floor g some.0) (in-mapped (floor g) (vertices_below t i) some.0 (vertex-some t k.well_formed i some.0 some.1.0 some.1.1))
     (λ j m.
-    let x = in-mapped_back (floor g) (vertices t i) j m in
+    let x = in-mapped_back (floor g) (vertices_below t i) j m in
     let low : floor g x.0 ≤ altitude_over t i = floors-in g t k i h x.0 x.1.0 in
     let small : altitude_over t i < 2 ^ 32 = k.small (parent t i) (k.well_formed.within i h) in
     omega (arith, low, small, x.1.1))
 
 -- the lowest floor is no higher than the altitude over the node
-pub lowest-low : (g : WeightedGraph) (t : ParentTree) → IsTreeOf g t → (i : ℕ) → i < nodes t → least (map (floor g) (vertices t i)) ≤ altitude_over t i
+pub lowest-low : (g : WeightedGraph) (t : ParentTree) → HasGraphTree g t → (i : ℕ) → i < nodes t → least (map (floor g) (vertices_below t i)) ≤ altitude_over t i
 lowest-low g t k i h =
     let some = k.some_leaf i h in
     let m = vertex-some t k.well_formed i some.0 some.1.0 some.1.1 in
-    let low : least (map (floor g) (vertices t i)) ≤ floor g some.0 = least-le (map (floor g) (vertices t i)) (floor g some.0) (in-mapped (floor g) (vertices t i) some.0 m) in
+    let low : least (map (floor g) (vertices_below t i)) ≤ floor g some.0 = least-le (map (floor g) (vertices_below t i)) (floor g some.0) (in-mapped (floor g) (vertices_below t i) some.0 m) in
     let under : floor g some.0 ≤ altitude_over t i = floors-in g t k i h some.0 m in
     omega (arith, low, under)
 

@@ -40,8 +40,8 @@ abbrev pub dynamics_under : WeightedGraph → ℕ → List ℕ → ℕ
 dynamics_under g p xs = p - least (map (floor g) xs)
 
 -- the leaves below node i, rising
-abbrev pub vertices : ParentTree → ℕ → List ℕ
-vertices t i = filter (is_above t i) (range_with_len 0 t.leaves)
+abbrev pub vertices_below : ParentTree → ℕ → List ℕ
+vertices_below t i = filter (is_above t i) (range_with_len 0 t.leaves)
 
 -- the altitude under which the attributes of node i are taken: its parent's, a root being its own parent
 abbrev pub altitude_over : ParentTree → ℕ → ℕ
@@ -60,9 +60,9 @@ node_numbers t = range_with_len 0 (length t.parents)
 -- the attributes of the nodes of a tree whose leaves are the graph's vertices
 abbrev pub attributes_in : WeightedGraph → ParentTree → AttributeLists
 attributes_in g t = record {
-  areas = map (λ i. area_of g (vertices t i)) (node_numbers t);
-  volumes = map (λ i. volume_under g (altitude_over t i) (vertices t i)) (node_numbers t);
-  dynamics = map (λ i. dynamics_under g (altitude_over t i) (vertices t i)) (node_numbers t);
+  areas = map (λ i. area_of g (vertices_below t i)) (node_numbers t);
+  volumes = map (λ i. volume_under g (altitude_over t i) (vertices_below t i)) (node_numbers t);
+  dynamics = map (λ i. dynamics_under g (altitude_over t i) (vertices_below t i)) (node_numbers t);
 }
 
 -- the attributes of the nodes of the graph's own tree

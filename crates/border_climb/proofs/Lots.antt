@@ -1,6 +1,6 @@
 -- Edges that are given one after another.
 use Rattle.std.proofs.lemmas.List.{take_more, append-nil}
-use Rattle.border_climb.specs.Parts.{KeepsPart, listed, CanTake}
+use Rattle.border_climb.specs.Parts.{KeepsPart, as_listed, CanTake}
 use Rattle.border_climb.proofs.Writes.{range-on}
 use Rattle.border_climb.proofs.Parts.{covered-on}
 use Rattle.std.proofs.Common.{◌≡◌, ◌≢◌, ℕ, zero, suc, ◌+◌, ◌<◌, ◌⊎◌, inl, inr, refl, sym, ◌∙◌, subst, ap, arith, List, [], ◌∷◌, ◌++◌, length, map, take, drop, get_or, append_assoc, length-append}
@@ -63,14 +63,14 @@ IsIn-map f x (y ∷ ys) (inl same) = inl (ap f same)
 IsIn-map f x (y ∷ ys) (inr later) = inr (IsIn-map f x ys later)
 
 -- an edge in the middle has another rank than those before it
-before-middle : (xs : List PlacedEdge) (e : PlacedEdge) (ys : List PlacedEdge) → AreApart (map listed (xs ++ (e ∷ ys))) → (t : EdgeList) → map placed t ≡ xs → (g : ListedEdge) → IsIn g t → g.rank ≢ e.rank
+before-middle : (xs : List PlacedEdge) (e : PlacedEdge) (ys : List PlacedEdge) → AreApart (map as_listed (xs ++ (e ∷ ys))) → (t : EdgeList) → map placed t ≡ xs → (g : ListedEdge) → IsIn g t → g.rank ≢ e.rank
 before-middle xs e ys a [] eq g i r = i
 before-middle [] e ys a (h ∷ t) eq g i r = absurd (never eq)
   where
     never : placed h ∷ map placed t ≡ [] → ⊥
     never q = cc
 before-middle (x ∷ xs) e ys a (h ∷ t) eq g (inl same) r =
-    a.0 (listed e) (IsIn-map listed e (xs ++ (e ∷ ys)) (IsIn-append e xs (e ∷ ys) (inr (inl refl))))
+    a.0 (as_listed e) (IsIn-map as_listed e (xs ++ (e ∷ ys)) (IsIn-append e xs (e ∷ ys) (inr (inl refl))))
     (ap (λ (p : PlacedEdge). p.rank) (sym (head eq)) ∙ ap (λ (k : ListedEdge). k.rank) same ∙ r)
   where
     head : placed h ∷ map placed t ≡ x ∷ xs → placed h ≡ x
@@ -86,8 +86,8 @@ pub new-next : (part : PartState) (edges : List PlacedEdge) (s : EdgeList) → C
 new-next part edges s m xs e ys eq t same g i = go (IsIn-append_back g s t i)
   where
     go : IsIn g s ⊎ IsIn g t → g.rank ≢ e.rank
-    go (inl in_s) = apart-across s (map listed edges) m.apart g (listed e) in_s (IsIn-map listed e edges (subst (λ (l : List PlacedEdge). IsIn e l) (sym eq) (IsIn-append e xs (e ∷ ys) (inr (inl refl)))))
-    go (inr in_t) = before-middle xs e ys (subst (λ (l : List PlacedEdge). AreApart (map listed l)) eq (apart-behind s (map listed edges) m.apart)) t same g in_t
+    go (inl in_s) = apart-across s (map as_listed edges) m.apart g (as_listed e) in_s (IsIn-map as_listed e edges (subst (λ (l : List PlacedEdge). IsIn e l) (sym eq) (IsIn-append e xs (e ∷ ys) (inr (inl refl)))))
+    go (inr in_t) = before-middle xs e ys (subst (λ (l : List PlacedEdge). AreApart (map as_listed l)) eq (apart-behind s (map as_listed edges) m.apart)) t same g in_t
 
 -- a list of edges that is one longer than another
 record IsLonger (t : EdgeList) (xs : List PlacedEdge) (e : PlacedEdge) : Type 0 where
@@ -136,7 +136,7 @@ stands-more old new s xs e before fresh given t eq =
     subst (λ (l : EdgeList). Stands new (s ++ l)) (sym w.is) (subst (λ (l : EdgeList). Stands new l) (append_assoc s w.front (w.last ∷ [])) st)
 
 -- the lists of placed edges as they are listed
-pub listed-placed : (xs : List PlacedEdge) → map placed (map listed xs) ≡ xs
+pub listed-placed : (xs : List PlacedEdge) → map placed (map as_listed xs) ≡ xs
 listed-placed [] = refl
 listed-placed (x ∷ xs) = ap (λ (l : List PlacedEdge). x ∷ l) (listed-placed xs)
 
@@ -183,10 +183,10 @@ given-next old mid edges i e lt at m s can =
       (
         can.two e inside,
         (
-          s ++ map listed (take i edges),
+          s ++ map as_listed (take i edges),
           (
-            m.stands s (map listed (take i edges)) can (listed-placed (take i edges)),
-            new-next old edges s can (take i edges) e (drop (suc i) edges) there (map listed (take i edges)) (listed-placed (take i edges)),
+            m.stands s (map as_listed (take i edges)) can (listed-placed (take i edges)),
+            new-next old edges s can (take i edges) e (drop (suc i) edges) there (map as_listed (take i edges)) (listed-placed (take i edges)),
           ),
         ),
       ),

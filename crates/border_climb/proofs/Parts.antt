@@ -20,7 +20,7 @@ use Rattle.border_climb.specs.Stands.{PartState, Stands, IsNewRank}
 use Rattle.border_climb.specs.Linked.{Points}
 use Rattle.border_climb.specs.Notes.{IsSound}
 use Rattle.border_climb.specs.Splicing.{KeepsRange, IsLinkedList, IsSpliced, Tells, rank_of}
-use Rattle.border_climb.specs.Parts.{IsLeastRank, IsAnswer, empty_part, listed}
+use Rattle.border_climb.specs.Parts.{IsLeastRank, IsAnswer, empty_part, as_listed}
 use Rattle.border_climb.proofs.Linked.{Stands-linked, linked-Stands, between-Stands}
 use Rattle.border_climb.proofs.Counting.{free-components}
 
@@ -88,7 +88,7 @@ least-first s a b f m = record {
 }
 
 -- What was told is the answer.
-pub answer-told : (s : EdgeList) (e : PlacedEdge) (answer : Given) → Tells (listed e) s answer → IsAnswer s e answer
+pub answer-told : (s : EdgeList) (e : PlacedEdge) (answer : Given) → Tells (as_listed e) s answer → IsAnswer s e answer
 answer-told s e answers.Redundant t = record {
   redundant = ((λ same. t), (λ j. refl));
   joined = ((λ same. cc), (λ never. absurd (never (below-joined s e.rank e.a e.b t))));

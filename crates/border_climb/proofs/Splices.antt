@@ -27,7 +27,7 @@ use Rattle.border_climb.specs.Stands.{IsMet}
 use Rattle.border_climb.specs.Linked.{HasRank, Points, AreLinked}
 use Rattle.border_climb.specs.Notes.{IsLive, IsSound, LeadsUp, AreNoted}
 use Rattle.border_climb.specs.Splicing.{IsLastCell, IsLast, IsOpened, IsSeam, IsMerged, IsLinkedList, IsSpliced, CanOpen, up_of}
-use Rattle.border_climb.specs.Climbs.{Ends, IsTop, DiffersInNotes, opened_pool}
+use Rattle.border_climb.specs.Climbs.{EndsClimb, IsTop, DiffersInNotes, opened_pool}
 use Rattle.border_climb.proofs.Linked.{cell-edge, next-behind, chain-met, linked-from}
 use Rattle.border_climb.proofs.Merging.{points-kept, cell-kept}
 use Rattle.border_climb.proofs.Opening.{opening, last-one}
@@ -38,7 +38,7 @@ use Rattle.border_climb.proofs.Opens.{opened-with}
 use Rattle.border_climb.proofs.Writes.{seam-at}
 
 -- a link that leads to no cell of rank below r leads beyond r
-ends-after : (pool : CellPool) (s : EdgeList) (o : Option ℕ) (r : ℕ) (w : Option ListedEdge) → Points pool o w → Ends pool o r → ((f : ListedEdge) → w ≡ Some f → f.rank ≢ r) → IsBefore w r
+ends-after : (pool : CellPool) (s : EdgeList) (o : Option ℕ) (r : ℕ) (w : Option ListedEdge) → Points pool o w → EndsClimb pool o r → ((f : ListedEdge) → w ≡ Some f → f.rank ≢ r) → IsBefore w r
 ends-after pool s o r None p e fresh = tt
 ends-after pool s None r (Some f) p e fresh = absurd p
 ends-after pool s (Some j) r (Some f) p e fresh =
@@ -309,7 +309,7 @@ links-on p q w a b = record {
 }
 
 top-same : (p q : CellPool) → SameLinks p q → (x r : ℕ) (o : Option ℕ) → IsTop p x r o → IsTop q x r o
-top-same p q same x r None top = ends-same p q same (leaf_of q x) r (subst (λ (o : Option ℕ). Ends p o r) (sym (same.leafs x)) top)
+top-same p q same x r None top = ends-same p q same (leaf_of q x) r (subst (λ (o : Option ℕ). EndsClimb p o r) (sym (same.leafs x)) top)
 top-same p q same x r (Some i) top = record {
   links = top.links;
   met = subst (λ (o : Option ℕ). IsMet q top.links o i) (sym (same.leafs x)) (met-same p q same top.links (leaf_of p x) i top.met);

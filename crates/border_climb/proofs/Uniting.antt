@@ -18,7 +18,7 @@ use Rattle.border_climb.specs.Linked.{HasRank, Points, IsCellOf, AreLinked}
 use Rattle.border_climb.specs.Notes.{IsLive, IsSound}
 use Rattle.hg_base.specs.declared.graph.PlacedEdge.{PlacedEdge}
 use Rattle.border_climb.specs.Splicing.{KeepsRange}
-use Rattle.border_climb.specs.Parts.{AreUnited, CanJoin, CanTake, SumsUp, listed}
+use Rattle.border_climb.specs.Parts.{AreUnited, CanJoin, CanTake, SumsUp, as_listed}
 use Rattle.border_climb.proofs.Parts.{few-edges}
 use Rattle.border_climb.proofs.Linked.{own-chain, Stands-linked, linked-Stands}
 use Rattle.border_climb.proofs.Merging.{points-kept}
@@ -349,7 +349,7 @@ stands-united left right whole s r pp pq next' m region given =
 
 -- parts that can be joined stand side by side
 pub united-from : (left right : PartState) (border : List PlacedEdge) (s r : EdgeList) → CanJoin left right border s r → AreUnited left right s r
-united-from left right border s r m = record { left_stands = m.left_stands; right_stands = m.right_stands; apart = AreApart-front (s ++ r) (map listed border) m.apart }
+united-from left right border s r m = record { left_stands = m.left_stands; right_stands = m.right_stands; apart = AreApart-front (s ++ r) (map as_listed border) m.apart }
 
 -- and together can take in the border
 pub border-taken : (left right mid : PartState) (border : List PlacedEdge) (s r : EdgeList) → IsPool left.region → IsPool right.region → IsNextTo left.region right.region → CanJoin left right border s r →
@@ -369,12 +369,12 @@ border-taken left right mid border s r pp pq next' m region st = record {
     two = record { left = pp; right = pq; next_to = next' }
 
 -- how many edges were given in all
-pub given-sum : (left right whole : PartState) (border : List PlacedEdge) (s r : EdgeList) → CanJoin left right border s r → Stands whole ((s ++ r) ++ map listed border) → whole.given ≡ left.given + right.given + length border
+pub given-sum : (left right whole : PartState) (border : List PlacedEdge) (s r : EdgeList) → CanJoin left right border s r → Stands whole ((s ++ r) ++ map as_listed border) → whole.given ≡ left.given + right.given + length border
 given-sum left right whole border s r m st =
     let a : left.given ≡ length s = m.left_stands.given in let b : right.given ≡ length r = m.right_stands.given in
-    let w : whole.given ≡ length ((s ++ r) ++ map listed border) = st.given in
-    let n = length-append (s ++ r) (map listed border) in let k = length-append s r in
-    let l : length (map listed border) ≡ length border = length-map border listed in
+    let w : whole.given ≡ length ((s ++ r) ++ map as_listed border) = st.given in
+    let n = length-append (s ++ r) (map as_listed border) in let k = length-append s r in
+    let l : length (map as_listed border) ≡ length border = length-map border as_listed in
     omega (arith, w, n, k, l)
 
 -- two parts side by side were given few edges

@@ -9,7 +9,7 @@ use Rattle.border_climb.specs.declared.climbing.Met.{Met}
 use Rattle.border_climb.specs.declared.climbing.Seen.{Seen}
 use Rattle.border_climb.specs.Stands.{IsMet}
 use Rattle.border_climb.specs.Notes.{IsSound, IsClimbable, IsNoted}
-use Rattle.border_climb.specs.Climbs.{Ends, IsBelow, IsNamed, IsRead, IsSeen, IsFurther, IsReached, IsClimbed, IsStart, IsBegun, IsTopCell}
+use Rattle.border_climb.specs.Climbs.{EndsClimb, IsBelow, IsNamed, IsRead, IsSeen, IsFurther, IsReached, IsClimbed, IsStart, IsClimbBegun, IsTopCell}
 use Rattle.border_climb.proofs.Pools.{SameLinks, links-back, live-same, met-same, rank-same, met-on, met-join, met-rises, one-cell, used-from, some-map, sound-climbable}
 
 -- what a note means that is found
@@ -112,11 +112,11 @@ reached-on pool start here next a b =
     let x : start.rank ≤ here.rank = a.from in let y : here.rank < next.rank = b.up in
     record { links = n.0; met = n.1; seat = b.next_seat; from = omega arith }
 
-pub ends-same : (p q : CellPool) → SameLinks p q → (o : Option ℕ) (r : ℕ) → Ends p o r → Ends q o r
+pub ends-same : (p q : CellPool) → SameLinks p q → (o : Option ℕ) (r : ℕ) → EndsClimb p o r → EndsClimb q o r
 ends-same p q s o r e j eq = let m = e j eq in (m.0, (s.cells j ∙ m.1.0, m.1.1))
 
 -- a link to a cell of rank r or more leads to none below r
-pub ends-above : (pool : CellPool) (link : Option ℕ) (i r : ℕ) (c : Cell) → link ≡ Some i → cell_at pool i ≡ Some c → r ≤ c.rank → Ends pool link r
+pub ends-above : (pool : CellPool) (link : Option ℕ) (i r : ℕ) (c : Cell) → link ≡ Some i → cell_at pool i ≡ Some c → r ≤ c.rank → EndsClimb pool link r
 ends-above pool link i r c leads is high j there =
     let one : Some i ≡ Some j = sym leads ∙ there in
     let same : i ≡ j = cc in
@@ -157,14 +157,14 @@ starts-first pool place r met b = record {
 
 -- where a climb begins at the first cell, if there is one below r
 pub begun-below : (pool : CellPool) (place r : ℕ) (link : Option ℕ) → link ≡ leaf_of pool place → (next : Option Seen) → IsSound pool
-    → IfSome next (λ s. IsBelow pool link r s.met) → IfSome next (IsRead pool) → IfNone next (Ends pool link r) → IsBegun pool place r next
-begun-below pool place r link is None s below read none = subst (λ (o : Option ℕ). Ends pool o r) is none
+    → IfSome next (λ s. IsBelow pool link r s.met) → IfSome next (IsRead pool) → IfNone next (EndsClimb pool link r) → IsClimbBegun pool place r next
+begun-below pool place r link is None s below read none = subst (λ (o : Option ℕ). EndsClimb pool o r) is none
 begun-below pool place r link is (Some next) s below read none =
     (starts-first pool place r next.met (subst (λ (o : Option ℕ). IsBelow pool o r next.met) is below), seen-read pool next (sound-climbable pool s next.met.rank) read)
 
 -- where a climb begins, whatever else was noted since
-pub begun-same : (p q : CellPool) → SameLinks p q → (place r : ℕ) (begun : Option Seen) → IsBegun p place r begun → IsBegun q place r begun
-begun-same p q s place r None ends = subst (λ (o : Option ℕ). Ends q o r) (sym (s.leafs place)) (ends-same p q s (leaf_of p place) r ends)
+pub begun-same : (p q : CellPool) → SameLinks p q → (place r : ℕ) (begun : Option Seen) → IsClimbBegun p place r begun → IsClimbBegun q place r begun
+begun-same p q s place r None ends = subst (λ (o : Option ℕ). EndsClimb q o r) (sym (s.leafs place)) (ends-same p q s (leaf_of p place) r ends)
 begun-same p q s place r (Some start) begun = (
   record {
     links = begun.0.links;

@@ -11,8 +11,8 @@ use Rattle.border_climb.specs.Linked.{HasRank}
 use Rattle.border_climb.specs.Notes.{IsLive}
 
 -- the link leads to no cell of rank below r
-abbrev pub Ends : CellPool → Option ℕ → ℕ → Type 0
-Ends pool link r = (j : ℕ) → link ≡ Some j → (b : Cell) × ((cell_at pool j ≡ Some b) × (r ≤ b.rank))
+abbrev pub EndsClimb : CellPool → Option ℕ → ℕ → Type 0
+EndsClimb pool link r = (j : ℕ) → link ≡ Some j → (b : Cell) × ((cell_at pool j ≡ Some b) × (r ≤ b.rank))
 
 -- the link leads to a cell of rank below r, which was met
 pub record IsBelow (pool : CellPool) (link : Option ℕ) (r : ℕ) (met : Met) : Type 0 where
@@ -60,7 +60,7 @@ pub record IsReached (pool : CellPool) (start here : Met) : Type 0 where
 pub record IsClimbed (pool : CellPool) (start : Met) (r : ℕ) (top : Met) : Type 0 where
   pub reached : IsReached pool start top
   pub low : top.rank < r
-  pub last : Ends pool reached.seat.cell.up r
+  pub last : EndsClimb pool reached.seat.cell.up r
 
 -- a climb from the place to rank r can begin at the cell
 pub record IsStart (pool : CellPool) (place r : ℕ) (start : Met) : Type 0 where
@@ -70,9 +70,9 @@ pub record IsStart (pool : CellPool) (place r : ℕ) (start : Met) : Type 0 wher
   pub low : start.rank < r
 
 -- a climb from the place to rank r can begin at the cell that was seen, or nothing below r is above the place
-abbrev pub IsBegun : CellPool → ℕ → ℕ → Option Seen → Type 0
-IsBegun pool place r None = Ends pool (leaf_of pool place) r
-IsBegun pool place r (Some start) = IsStart pool place r start.met × IsSeen pool start
+abbrev pub IsClimbBegun : CellPool → ℕ → ℕ → Option Seen → Type 0
+IsClimbBegun pool place r None = EndsClimb pool (leaf_of pool place) r
+IsClimbBegun pool place r (Some start) = IsStart pool place r start.met × IsSeen pool start
 
 -- the last cell of rank below r above a place
 pub record IsTopCell (pool : CellPool) (place r id : ℕ) : Type 0 where
@@ -81,10 +81,10 @@ pub record IsTopCell (pool : CellPool) (place r id : ℕ) : Type 0 where
   pub cell : Cell
   pub is : cell_at pool id ≡ Some cell
   pub low : cell.rank < r
-  pub last : Ends pool cell.up r
+  pub last : EndsClimb pool cell.up r
 
 abbrev pub IsTop : CellPool → ℕ → ℕ → Option ℕ → Type 0
-IsTop pool place r None = Ends pool (leaf_of pool place) r
+IsTop pool place r None = EndsClimb pool (leaf_of pool place) r
 IsTop pool place r (Some id) = IsTopCell pool place r id
 
 -- only notes differ

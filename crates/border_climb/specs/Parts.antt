@@ -39,15 +39,15 @@ abbrev pub above_cell : CellPool → ℕ → Option ℕ
 above_cell pool id = option_map_or (λ c. c.up) (cell_at pool id) None
 
 -- an edge of a list with the rank and the ends of a placed edge
-abbrev pub listed : PlacedEdge → ListedEdge
-listed e = record { rank = e.rank; u = e.a; v = e.b; weight = 0; number = 0 }
+abbrev pub as_listed : PlacedEdge → ListedEdge
+as_listed e = record { rank = e.rank; u = e.a; v = e.b; weight = 0; number = 0 }
 
 -- the edges of a list are between covered places, each with two different ends, and no two have one rank
 pub record IsLot (pool : CellPool) (lot : List PlacedEdge) : Type 0 where
   pub a : (e : PlacedEdge) → IsIn e lot → IsCovered pool e.a
   pub b : (e : PlacedEdge) → IsIn e lot → IsCovered pool e.b
   pub two : (e : PlacedEdge) → IsIn e lot → e.a ≢ e.b
-  pub apart : AreApart (map listed lot)
+  pub apart : AreApart (map as_listed lot)
 
 -- one end is a place of the left part, and the other one of the right
 abbrev pub Crosses : CellPool → CellPool → PlacedEdge → Type 0
@@ -58,7 +58,7 @@ pub record CanJoin (left right : PartState) (border : List PlacedEdge) (s r : Ed
   pub left_stands : Stands left s
   pub right_stands : Stands right r
   pub crosses : (e : PlacedEdge) → IsIn e border → Crosses left.region right.region e
-  pub apart : AreApart ((s ++ r) ++ map listed border)
+  pub apart : AreApart ((s ++ r) ++ map as_listed border)
 
 -- The part stands for s and can take in the edges, which are between its places and have other ranks.
 pub record CanTake (part : PartState) (edges : List PlacedEdge) (s : EdgeList) : Type 0 where
@@ -66,7 +66,7 @@ pub record CanTake (part : PartState) (edges : List PlacedEdge) (s : EdgeList) :
   pub a : (e : PlacedEdge) → IsIn e edges → IsCovered part.region e.a
   pub b : (e : PlacedEdge) → IsIn e edges → IsCovered part.region e.b
   pub two : (e : PlacedEdge) → IsIn e edges → e.a ≢ e.b
-  pub apart : AreApart (s ++ map listed edges)
+  pub apart : AreApart (s ++ map as_listed edges)
 
 -- The parts stand for s and r, which together have different ranks.
 pub record AreUnited (left right : PartState) (s r : EdgeList) : Type 0 where

@@ -1,7 +1,7 @@
 ghost use Rattle.std.specs.Prelude.{◌≡◌, ℕ, ◌<◌, ◌≤◌, Some, IfSome, IfNone};
 ghost use Rattle.node_region.specs.Pool.{IsCovered, IsUsed, IsPool, cell_at, leaf_of, turn_of};
 ghost use Rattle.border_climb.specs.Notes.{IsClimbable, IsNoted, IsSound};
-ghost use Rattle.border_climb.specs.Climbs.{Ends, IsBelow, IsNamed, IsRead, IsSeen, IsFurther, IsClimbed, IsBegun, IsTop, DiffersInNotes};
+ghost use Rattle.border_climb.specs.Climbs.{EndsClimb, IsBelow, IsNamed, IsRead, IsSeen, IsFurther, IsClimbed, IsClimbBegun, IsTop, DiffersInNotes};
 
 use node_region::{Entry, Hint, Region};
 
@@ -25,7 +25,7 @@ fn below(region: &Region, link: Option<u32>, r: u32) -> Option<Seen>
     requires { IfSome link (IsUsed region.now) }
     ensures some { IfSome result (λ next. IsBelow region.now link r next.met) }
     ensures read { IfSome result (IsRead region.now) }
-    ensures none { IfNone result (Ends region.now link r) }
+    ensures none { IfNone result (EndsClimb region.now link r) }
 {
     let id = link?;
     let entry = region.entry(id);
@@ -74,7 +74,7 @@ fn ahead(region: &Region, here: Seen, r: u32) -> Option<Seen>
     ensures further { IfSome result (λ next. IsFurther region.now here.met next.met) }
     ensures read { IfSome result (IsRead region.now) }
     ensures low { IfSome result (λ next. next.met.rank < r) }
-    ensures none { IfNone result (Ends region.now here.entry.cell.up r) }
+    ensures none { IfNone result (EndsClimb region.now here.entry.cell.up r) }
 {
     match noted(region, here.entry.hint, r) {
         Some(next) => Some(next),
@@ -129,7 +129,7 @@ pub(crate) fn climb(region: &mut Region, start: Seen, r: u32) -> Seen
 pub(crate) fn begin(region: &Region, place: u32, r: u32) -> Option<Seen>
     requires covered { IsCovered region.now place }
     requires sound { IsSound region.now }
-    ensures { IsBegun region.now place r result }
+    ensures { IsClimbBegun region.now place r result }
 {
     match noted(region, region.finger(place), r) {
         Some(start) => Some(start),
@@ -148,7 +148,7 @@ pub(crate) fn last_below(
 ) -> Option<u32>
     requires covered { IsCovered region.old place }
     requires sound { IsSound region.old }
-    requires begun { IsBegun region.old place r begun }
+    requires begun { IsClimbBegun region.old place r begun }
     ensures top { IsTop region.old place r result }
     ensures notes { DiffersInNotes region.old region.new }
     ensures sound { IsSound region.new }

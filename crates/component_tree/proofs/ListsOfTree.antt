@@ -19,7 +19,7 @@ use Rattle.component_tree.specs.declared.nodes.Component.{Component}
 use Rattle.component_tree.specs.Components.{ComponentLists, IsComponentTree}
 use Rattle.component_tree.specs.MinTree.{turned, turned_back, value_at, component_tree_of}
 use Rattle.component_tree.specs.Weighed.{weighed_graph}
-use Rattle.component_tree.specs.NodeComponents.{level_in, levels_in, component_at, AreLeasts, AreComponents, ArePlaces, leaf_parent, component_parent, HasLeaves, AreGreaterEnds, AreFloodEdges, IsTurnedTree}
+use Rattle.component_tree.specs.NodeComponents.{level_in, levels_in, component_at, AreLeasts, AreComponents, ArePlaces, parent_of_leaf, component_parent, HasLeaves, AreGreaterEnds, AreFloodEdges, IsTurnedTree}
 use Rattle.component_tree.proofs.Flooded.{flooded-tree}
 use Rattle.component_tree.proofs.MinTreeOfLists.{built-tree}
 use Rattle.component_tree.proofs.WeighedEnds.{greater-ends, weighed-ends, ends-weighed, within-ends, ends-tree}
@@ -64,7 +64,7 @@ module _ (side : Side) (values : List ℕ) (t : ParentTree) (s : EdgeList) (leve
   abbrev pub min : ComponentLists
   min = record {
     leaves = t.leaves;
-    parents = map (leaf_parent t places) (range_with_len 0 t.leaves) ++ map (component_parent t places) list;
+    parents = map (parent_of_leaf t places) (range_with_len 0 t.leaves) ++ map (component_parent t places) list;
     levels = map f (range_with_len 0 t.leaves) ++ map (λ (c : Component). c.level) list;
   }
 
@@ -78,23 +78,23 @@ module _ (side : Side) (values : List ℕ) (t : ParentTree) (s : EdgeList) (leve
     components = c;
     places_are = p;
     leaves = refl;
-    parents_long = both-long (leaf_parent t places) t.leaves (component_parent t places) list;
+    parents_long = both-long (parent_of_leaf t places) t.leaves (component_parent t places) list;
     levels_long = both-long f t.leaves (λ (x : Component). x.level) list;
     leaf_level = λ x h. front-at f t.leaves x (map (λ (y : Component). y.level) list) h;
     node_level = λ k h. back-at f t.leaves k (λ (y : Component). y.level) list h;
-    leaf_parent = λ x h. front-at (leaf_parent t places) t.leaves x (map (component_parent t places) list) h;
-    node_parent = λ k h. back-at (leaf_parent t places) t.leaves k (component_parent t places) list h;
+    leaf_parent = λ x h. front-at (parent_of_leaf t places) t.leaves x (map (component_parent t places) list) h;
+    node_parent = λ k h. back-at (parent_of_leaf t places) t.leaves k (component_parent t places) list h;
   })
     where
       level-at : (i : ℕ) → i < length t.parents → get_or levels i 0 ≡ level_in side values t i
       level-at i h = ap (λ (ls : List ℕ). get_or ls i 0) are ∙ get_or-map-range_with_len (level_in side values t) 0 (length t.parents) i i 0 h (omega arith)
 
   -- turned back, they are the values of the leaves and the levels of the components
-  pub min-turned : ((x : ℕ) → value_at values x ≤ 4294967295) → (parents out : List ℕ) → parents ≡ map (leaf_parent t places) (range_with_len 0 t.leaves) ++ map (component_parent t places) list →
+  pub min-turned : ((x : ℕ) → value_at values x ≤ 4294967295) → (parents out : List ℕ) → parents ≡ map (parent_of_leaf t places) (range_with_len 0 t.leaves) ++ map (component_parent t places) list →
       out ≡ map (value_at values) (range_with_len 0 t.leaves) ++ map (λ (c : Component). turned side c.level) list → lists t.leaves parents out ≡ turned_back side min
   min-turned fits parents out up is =
       ap (λ (p : List ℕ). lists t.leaves p out) up
-      ∙ ap (lists t.leaves (map (leaf_parent t places) (range_with_len 0 t.leaves) ++ map (component_parent t places) list))
+      ∙ ap (lists t.leaves (map (parent_of_leaf t places) (range_with_len 0 t.leaves) ++ map (component_parent t places) list))
       (is
       ∙ ap (λ (x : List ℕ). x ++ map (λ (c : Component). turned side c.level) list)
       (map-agree (value_at values) (λ x. turned side (f x)) 0 t.leaves (λ x a b. sym (turned-twice side (value_at values x) (fits x))) ∙ sym (map-map (turned side) f (range_with_len 0 t.leaves)))
@@ -133,13 +133,13 @@ flood-leaves f n s e i h = (level-tree n s e.apart e.within e.by_weight).some_le
 
 -- the parents of the leaves, and those of the components behind them
 pub parents-whole : (t : ParentTree) (places d e : List ℕ) (list l : List Component) (first whole : List ℕ) → d ≡ places → e ≡ places → l ≡ list →
-    first ≡ map (leaf_parent t d) (range_with_len 0 t.leaves) → whole ≡ first ++ map (component_parent t e) l →
-    whole ≡ map (leaf_parent t places) (range_with_len 0 t.leaves) ++ map (component_parent t places) list
+    first ≡ map (parent_of_leaf t d) (range_with_len 0 t.leaves) → whole ≡ first ++ map (component_parent t e) l →
+    whole ≡ map (parent_of_leaf t places) (range_with_len 0 t.leaves) ++ map (component_parent t places) list
 parents-whole t places d e list l first whole dp ep ll front all =
     all
-    ∙ ap (λ (x : List ℕ). x ++ map (component_parent t e) l) (front ∙ ap (λ (x : List ℕ). map (leaf_parent t x) (range_with_len 0 t.leaves)) dp)
-    ∙ ap (λ (x : List ℕ). map (leaf_parent t places) (range_with_len 0 t.leaves) ++ map (component_parent t x) l) ep
-    ∙ ap (λ (x : List Component). map (leaf_parent t places) (range_with_len 0 t.leaves) ++ map (component_parent t places) x) ll
+    ∙ ap (λ (x : List ℕ). x ++ map (component_parent t e) l) (front ∙ ap (λ (x : List ℕ). map (parent_of_leaf t x) (range_with_len 0 t.leaves)) dp)
+    ∙ ap (λ (x : List ℕ). map (parent_of_leaf t places) (range_with_len 0 t.leaves) ++ map (component_parent t x) l) ep
+    ∙ ap (λ (x : List Component). map (parent_of_leaf t places) (range_with_len 0 t.leaves) ++ map (component_parent t places) x) ll
 
 -- the levels of the leaves, and those of the components behind them
 pub levels-whole : (side : Side) (values : List ℕ) (n : ℕ) (list l : List Component) (first whole : List ℕ) → l ≡ list → first ≡ map (value_at values) (range_with_len 0 n) →
@@ -151,9 +151,9 @@ levels-whole side values n list l first whole ll front all =
 
 -- not too many
 pub parents-few : (t : ParentTree) (levels leasts places : List ℕ) (list : List Component) (whole : List ℕ) → IsWellFormed t → AreComponents t levels leasts list →
-    whole ≡ map (leaf_parent t places) (range_with_len 0 t.leaves) ++ map (component_parent t places) list → length whole ≤ 4194304
+    whole ≡ map (parent_of_leaf t places) (range_with_len 0 t.leaves) ++ map (component_parent t places) list → length whole ≤ 4194304
 parents-few t levels leasts places list whole forest c e =
-    let l = both-long (leaf_parent t places) t.leaves (component_parent t places) list in
+    let l = both-long (parent_of_leaf t places) t.leaves (component_parent t places) list in
     let w = ap (λ (x : List ℕ). length x) e in
     let few = c.few in
     let leaves = forest.few_leaves in
@@ -162,7 +162,7 @@ parents-few t levels leasts places list whole forest c e =
 -- what is built is the tree of the turned values, with its levels turned back
 pub finished : (side : Side) (values : List ℕ) (t : ParentTree) (s : EdgeList) (levels leasts : List ℕ) (list : List Component) (places parents out : List ℕ) (leaves : ℕ) (tree : ComponentLists) →
     AreValues values → IsWellFormed t → levels ≡ levels_in side values t → AreLeasts t leasts → AreComponents t levels leasts list → ArePlaces t levels list places →
-    parents ≡ map (leaf_parent t places) (range_with_len 0 t.leaves) ++ map (component_parent t places) list →
+    parents ≡ map (parent_of_leaf t places) (range_with_len 0 t.leaves) ++ map (component_parent t places) list →
     out ≡ map (value_at values) (range_with_len 0 t.leaves) ++ map (λ (c : Component). turned side c.level) list →
     leaves ≡ t.leaves → tree ≡ lists leaves parents out →
     AreFloodEdges (λ x. turned side (value_at values x)) t.leaves s → t ≡ tree_of t.leaves s → IsTurnedTree side values t.leaves s tree

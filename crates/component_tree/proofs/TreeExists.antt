@@ -13,7 +13,7 @@ use Rattle.component_tree.specs.Components.{ComponentLists, IsComponentTree}
 use Rattle.component_tree.specs.MinTree.{turned, value_at, component_tree_of}
 use Rattle.component_tree.specs.Values.{AreValues}
 use Rattle.component_tree.specs.Weighed.{weighed_graph}
-use Rattle.component_tree.specs.NodeComponents.{levels_in, leaf_parent, component_parent, HasLeaves, AreFloodEdges, IsTurnedTree}
+use Rattle.component_tree.specs.NodeComponents.{levels_in, parent_of_leaf, component_parent, HasLeaves, AreFloodEdges, IsTurnedTree}
 use Rattle.component_tree.proofs.Sided.{value-fits}
 use Rattle.component_tree.proofs.ListsOfTree.{lists, weighed-flood, flood-leaves, turned-components, turned-function, finished}
 use Rattle.component_tree.proofs.Weighing.{graph-weighed}
@@ -27,7 +27,7 @@ turned-exists side values t s fits forest leaves e same =
     let l = leasts-exist t forest leaves in
     let c = components-exist t forest levels l.0 in
     let p = places-exist t forest levels l.0 c.0 c.1 in
-    let parents : List ℕ = map (leaf_parent t p.0) (range_with_len 0 t.leaves) ++ map (component_parent t p.0) c.0 in
+    let parents : List ℕ = map (parent_of_leaf t p.0) (range_with_len 0 t.leaves) ++ map (component_parent t p.0) c.0 in
     let out : List ℕ = map (value_at values) (range_with_len 0 t.leaves) ++ map (λ (x : Component). turned side x.level) c.0 in
     (lists t.leaves parents out, finished side values t s levels l.0 c.0 p.0 parents out t.leaves (lists t.leaves parents out) fits forest refl l.1 c.1 p.1 refl refl refl refl e same)
 

@@ -78,8 +78,8 @@ abbrev pub ArePlaced : ParentTree → List Component → List ℕ → Type 0
 ArePlaced t list places = (levels : List ℕ) × ((leasts : List ℕ) × (AreComponents t levels leasts list × ArePlaces t levels list places))
 
 -- the parent of a leaf: the node at its place
-abbrev pub leaf_parent : ParentTree → List ℕ → ℕ → ℕ
-leaf_parent t places x = t.leaves + get_or places x 0
+abbrev pub parent_of_leaf : ParentTree → List ℕ → ℕ → ℕ
+parent_of_leaf t places x = t.leaves + get_or places x 0
 
 -- the parent of a component: the node at the place of its node's parent
 abbrev pub component_parent : ParentTree → List ℕ → Component → ℕ

@@ -9,7 +9,7 @@ ghost use Rattle.component_tree.specs.Components.{IsComponentTree};
 ghost use Rattle.component_tree.specs.MinTree.{turned, value_at, component_tree_of};
 ghost use Rattle.component_tree.specs.Values.{AreValues};
 ghost use Rattle.component_tree.specs.Weighed.{weighed_graph, IsWeighed};
-ghost use Rattle.component_tree.specs.NodeComponents.{ArePlaced, leaf_parent, component_parent, HasLeaves, AreFloodEdges, IsTurnedTree};
+ghost use Rattle.component_tree.specs.NodeComponents.{ArePlaced, parent_of_leaf, component_parent, HasLeaves, AreFloodEdges, IsTurnedTree};
 
 use crate::nodes::{Component, components, leasts, levels, places};
 use crate::side::{Side, turned};
@@ -95,7 +95,7 @@ fn leaf_parents(
     list: &[Component],
 ) -> Result<Vec<u32>, AllocError>
     requires { ArePlaced tree.now list.now places.now }
-    ensures { IfOk result (λ parents. parents.items ≡ map (leaf_parent tree.now places.now) (range_with_len 0 tree.now.leaves)) }
+    ensures { IfOk result (λ parents. parents.items ≡ map (parent_of_leaf tree.now places.now) (range_with_len 0 tree.now.leaves)) }
 {
     let leaves = tree.leaves();
     let mut parents = Vec::with_capacity(alloc, leaves as usize + list.len())?;

@@ -1,7 +1,8 @@
 -- The bytes of a contour map as a picture in the binary form P5 of the PGM format.
 use Rattle.std.specs.Prelude.{ℕ, List, ◌++◌, map}
 use Rattle.std.specs.List.{flat_map}
-use Rattle.label_writer.specs.Report.{header, sample_bytes}
+use Rattle.hg_base.specs.Samples.{sample_bytes}
+use Rattle.label_writer.specs.Report.{header}
 use Rattle.contour_map.specs.Contours.{PointGrid}
 use Rattle.contour_map.specs.Scaling.{highest, scaled, greatest_sample}
 

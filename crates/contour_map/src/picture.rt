@@ -1,6 +1,6 @@
 ghost use Rattle.std.specs.Prelude.{◌≡◌, ◌≤◌, ◌++◌, All, IfOk, OnOk, map};
 ghost use Rattle.std.specs.List.{flat_map};
-ghost use Rattle.label_writer.specs.Report.{sample_bytes};
+ghost use Rattle.hg_base.specs.Samples.{sample_bytes};
 ghost use Rattle.contour_map.specs.Report.{contours_picture};
 ghost use Rattle.contour_map.specs.Scaling.{scaled, greatest_sample};
 

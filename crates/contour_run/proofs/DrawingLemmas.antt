@@ -10,7 +10,7 @@ use Rattle.merge_board.specs.Seats.{ReceiptState}
 use Rattle.pgm_reader.specs.Raster.{Raster}
 use Rattle.saliency.specs.Values.{EndsShareRoots}
 use Rattle.higra_report.proofs.PlanningLemmas.{edges_in, receipt_squares}
-use Rattle.higra_input.specs.Inputs.{graph_of}
+use Rattle.higra_input.specs.Inputs.{input_graph}
 use Rattle.higra_input.specs.declared.input.Input.TheVariants.{Picture}
 use Rattle.higra_words.specs.declared.request.Form.TheVariants.{Text}
 use Rattle.higra_words.specs.declared.request.Report.TheVariants.{Tree}
@@ -23,7 +23,7 @@ pub hierarchy_roots : (g : WeightedGraph) (kind : Kind) (t : ParentTree) → IsG
 hierarchy_roots g kind t is same = subst (λ (u : ParentTree). EndsShareRoots g u) (sym same) (hierarchy_shares g kind is)
 
 -- the receipt of a picture's graph is that of the request
-pub receipt_drawn : (request : ContourRequest) (r : Raster) (g : WeightedGraph) (receipt : ReceiptState) → receipt ≡ receipt_in g (Squares r.width r.height request.tile) request.workers → g ≡ graph_of (Picture r)
+pub receipt_drawn : (request : ContourRequest) (r : Raster) (g : WeightedGraph) (receipt : ReceiptState) → receipt ≡ receipt_in g (Squares r.width r.height request.tile) request.workers → g ≡ input_graph (Picture r)
     → receipt ≡ contours_receipt request (Picture r)
 receipt_drawn request r g receipt is same =
     receipt_squares (record { report = Tree; tile = request.tile; workers = request.workers; form = Text; made = None }) r g receipt is (edges_in r g same)

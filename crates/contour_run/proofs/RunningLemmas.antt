@@ -9,14 +9,14 @@ use Rattle.higra_words.specs.declared.request.Made.{Made}
 use Rattle.higra_input.proofs.GettingLemmas.{TookBy-got, TookBy-stopped, got_short, input_for-got, risen, took_long}
 use Rattle.higra_input.proofs.ReadingLemmas.{gave_nothing}
 use Rattle.higra_input.specs.Getting.{AreBytesOf, GotInput, StoodStill, StopsGetting, TookBy}
-use Rattle.higra_input.specs.Inputs.{graph_of, input_for, too_long}
+use Rattle.higra_input.specs.Inputs.{input_graph, input_for, too_long}
 use Rattle.higra_input.specs.Reading.{GaveTooMuch, Told}
 use Rattle.higra_input.specs.declared.fault.ReadFault.{ReadFault}
 use Rattle.higra_input.specs.declared.fault.ReadFault.TheVariants as reads
 use Rattle.higra_input.specs.declared.input.Input.{Input}
 use Rattle.higra_input.specs.declared.input.Input.TheVariants.{Edges, Picture}
 use Rattle.higra_report.proofs.RefusalLemmas.{IsOther, other-tiles}
-use Rattle.higra_report.specs.Reports.{plan_of}
+use Rattle.higra_report.specs.Reports.{input_plan}
 use Rattle.higra_report.specs.Theorems.{IsHierarchy}
 use Rattle.higra_report.specs.declared.fault.ReportFault.{ReportFault}
 use Rattle.higra_report.specs.declared.fault.ReportFault.TheVariants as refusals
@@ -61,7 +61,7 @@ Ends-stopped words request old new out fault status is asked stopped =
 -- no reason for which contours are refused is that the input is too long
 refusal-other : (tile : ℕ) (input : Input) → IsOther (contours_refusal tile input)
 refusal-other tile (Edges graph) = λ e. cc
-refusal-other tile (Picture raster) = other-tiles (tile_count (plan_of tile (Picture raster)))
+refusal-other tile (Picture raster) = other-tiles (tile_count (input_plan tile (Picture raster)))
 
 refused-other : (tile : ℕ) (input : Input) (fault : InputFault) → contours_refusal tile input ≡ Some fault → fault.kind ≢ TooLong
 refused-other tile input fault is = subst IsOther is (refusal-other tile input)
@@ -78,7 +78,7 @@ Draws-done words request input old new Done asked got writes = record { request 
 
 -- something was done with the bytes of contours
 pub contours_written : (request : ContourRequest) (input : Input) (Done : List ℕ → Type 0) (drawn bytes : List ℕ) → contours_refusal request.tile input ≡ None → AreContoursOf request.kind input drawn → bytes ≡ drawn → Done bytes
-    → IsHierarchy (graph_of input) → Writes request input Done
+    → IsHierarchy (input_graph input) → Writes request input Done
 contours_written request input Done drawn bytes accepted contours are done hierarchy =
     record { accepted = accepted; bytes = drawn; contours = contours; done = subst Done are done; hierarchy = hierarchy }
 

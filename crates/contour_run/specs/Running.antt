@@ -5,7 +5,7 @@ use Rattle.hg_base.specs.Outside.{Rose, AppendsPrefix}
 use Rattle.hg_base.specs.declared.fault.InputFault.{InputFault}
 use Rattle.merge_board.specs.Seats.{ReceiptState}
 use Rattle.higra_input.specs.Getting.{AreBytesOf, GotInput, TookBy}
-use Rattle.higra_input.specs.Inputs.{graph_of, input_for}
+use Rattle.higra_input.specs.Inputs.{input_graph, input_for}
 use Rattle.higra_input.specs.Reading.{Told}
 use Rattle.higra_input.specs.declared.input.Input.{Input}
 use Rattle.higra_report.specs.Theorems.{IsHierarchy}
@@ -55,7 +55,7 @@ pub record Writes (request : ContourRequest) (input : Input) (Done : List ℕ �
   pub bytes : List ℕ
   pub contours : AreContoursOf request.kind input bytes
   pub done : Done bytes
-  pub hierarchy : IsHierarchy (graph_of input)
+  pub hierarchy : IsHierarchy (input_graph input)
 
 -- The words gave a request, its input is accepted, and this was done with exactly the contours that were asked for.
 pub record Draws (words : List (List ℕ)) (old new : Option (List ℕ)) (Done : List ℕ → Type 0) : Type 0 where

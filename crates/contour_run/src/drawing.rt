@@ -5,7 +5,7 @@ ghost use Rattle.edge_order.specs.Order.{order_of};
 ghost use Rattle.extinction.specs.HierarchicalWatershed.{hierarchical_of};
 ghost use Rattle.tree_laws.specs.Tree.{graph_tree};
 ghost use Rattle.pgm_reader.specs.Grid as grid;
-ghost use Rattle.higra_input.specs.Inputs.{graph_of};
+ghost use Rattle.higra_input.specs.Inputs.{input_graph};
 ghost use Rattle.graph_hierarchy.specs.Hierarchies.{IsTreeOf};
 ghost use Rattle.higra_report.specs.Reports.{cut_tree};
 ghost use Rattle.higra_report.specs.Theorems.{IsHierarchy};
@@ -40,7 +40,7 @@ pub fn draw<G: Gate>(
     requires { CanDraw request.now }
     ensures drawn { AreDrawn request.now input.now result }
     ensures receipt { IfOk result (λ drawn. drawn.1 ≡ contours_receipt request.now input.now) }
-    ensures hierarchy { IfOk result (λ _. IsHierarchy (graph_of input.now)) }
+    ensures hierarchy { IfOk result (λ _. IsHierarchy (input_graph input.now)) }
 {
     match input {
         Input::Edges(_) => Err(ReportFault::Input(InputFault {
@@ -63,7 +63,7 @@ fn draw_picture<G: Gate>(
     requires { CanDraw request.now }
     ensures drawn { AreDrawn request.now (Input.Picture picture.now) result }
     ensures receipt { IfOk result (λ drawn. drawn.1 ≡ contours_receipt request.now (Input.Picture picture.now)) }
-    ensures hierarchy { IfOk result (λ _. IsHierarchy (graph_of (Input.Picture picture.now))) }
+    ensures hierarchy { IfOk result (λ _. IsHierarchy (input_graph (Input.Picture picture.now))) }
 {
     let graph = graph_of(rt, alloc, picture)?;
     let (tile, workers) = (request.tile, request.workers);

@@ -115,10 +115,11 @@ impl Order {
         })
     }
 
-    /// Does nothing. It stands where only this is needed: the order is that of a graph.
+    /// Does nothing. It stands where only this is needed: the order is that of a graph, and has no more edges than that.
     #[inline(always)]
     pub fn keeps_its_rules(&self)
         ensures graph { (g : WeightedGraph) × (self.now ≡ order_of g) }
+        ensures edges { length self.now.edges ≤ 4194304 }
     {
         let _ = &self.n;
     }

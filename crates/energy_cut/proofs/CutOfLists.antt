@@ -6,7 +6,7 @@ use Rattle.std.proofs.lemmas.List.{get_or-set_other, get_or-take, length-take-le
 use Rattle.std.proofs.Math.Nat.{mul-le-mul_right}
 use Rattle.hg_base.specs.Counting.{count_below}
 use Rattle.hg_base.specs.Labels.{Labelling, IsLabelling, labelling}
-use Rattle.hg_base.specs.Numbering.{is_head, key_label}
+use Rattle.hg_base.specs.Numbering.{is_class_head, key_label}
 use Rattle.tree_laws.specs.Tree.{ParentTree, parent}
 use Rattle.hg_base.proofs.Passing.{length-passing, count_below-most}
 use Rattle.partition_tree.specs.TreeLists.{IsWellFormed}
@@ -78,7 +78,7 @@ pub record AreRegions (t : ParentTree) (nodes : List ℕ) (labels : Labelling) :
 
 pub made-regions : (t : ParentTree) (e : List ℕ) (tops slice : List (Option ℕ)) (n m : ℕ) (nodes labels : List ℕ) (count : ℕ) → IsWellFormed t → AreHighestKeepers t e tops → slice ≡ tops → n ≡ t.leaves → m ≡ length t.parents →
     nodes ≡ filter (is_key (take n slice)) (range_with_len 0 m) →
-    labels ≡ map (key_label (take n slice)) (range_with_len 0 (length (take n slice))) → count ≡ count_below (is_head (take n slice)) (length (take n slice)) →
+    labels ≡ map (key_label (take n slice)) (range_with_len 0 (length (take n slice))) → count ≡ count_below (is_class_head (take n slice)) (length (take n slice)) →
     AreRegions t nodes (record { labels = labels; count = count })
 unfolding leaf-keys
 made-regions t e tops slice n m nodes labels count f a whole all many are named counted =
@@ -89,7 +89,7 @@ made-regions t e tops slice n m nodes labels count f a whole all many are named 
     let with_labels : List ℕ → Labelling = λ l. record { labels = l; count = count } in
     let with_count : ℕ → Labelling = λ c. record { labels = map (key_label keys) (range_with_len 0 t.leaves); count = c } in
     let whole_labels : with_labels labels ≡ labelling (in_one_region t (best_nodes t e a.least)) t.leaves =
-    ap with_labels (named ∙ ap (λ (b : ℕ). map (key_label keys) (range_with_len 0 b)) k.one_each) ∙ ap with_count (counted ∙ ap (count_below (is_head keys)) k.one_each) ∙ r.result in record {
+    ap with_labels (named ∙ ap (λ (b : ℕ). map (key_label keys) (range_with_len 0 b)) k.one_each) ∙ ap with_count (counted ∙ ap (count_below (is_class_head keys)) k.one_each) ∙ r.result in record {
       result = whole_labels ∙ ap (λ (c : List ℕ). labelling (in_one_region t c) t.leaves) (sym same);
       fit = subst IsLabelling (sym whole_labels) r.fit;
     }

@@ -7,7 +7,7 @@ use Rattle.std.proofs.lemmas.Bool.{and_parts, and_from, eqb-true, eq-eqb}
 use Rattle.std.proofs.lemmas.List.{get_or_default}
 use Rattle.hg_base.specs.Lists.{IsIn}
 use Rattle.hg_base.specs.Counting.{count_below}
-use Rattle.hg_base.specs.Numbering.{is_head, same_key, key_label}
+use Rattle.hg_base.specs.Numbering.{is_class_head, same_key, key_label}
 use Rattle.tree_laws.specs.Tree.{ParentTree, IsAbove}
 use Rattle.tree_laws.specs.Levels.{is_above}
 use Rattle.tree_laws.proofs.Climbs.{above-within}
@@ -134,7 +134,7 @@ region-keys t e tops keys k x y hx hy =
 
 -- so the labels by keys are those of the regions
 pub region-labels : (t : ParentTree) (e : List ℕ) (tops keys : List (Option ℕ)) → (k : AreLeafKeys t e tops keys) →
-    AreLabels t.leaves (map (key_label keys) (range_with_len 0 t.leaves)) (count_below (is_head keys) t.leaves) (in_one_region t (cut_nodes t e tops k.tops_are))
+    AreLabels t.leaves (map (key_label keys) (range_with_len 0 t.leaves)) (count_below (is_class_head keys) t.leaves) (in_one_region t (cut_nodes t e tops k.tops_are))
 region-labels t e tops keys k =
     let r = in_one_region t (cut_nodes t e tops k.tops_are) in
     labels-by_keys keys t.leaves (top_of_leaf tops) r (leaf-key t e tops keys k)

@@ -13,7 +13,7 @@ use Rattle.tree_laws.specs.Levels.{is_above}
 use Rattle.tree_laws.proofs.Climbs.{above-next, above-altitude}
 use Rattle.hg_base.proofs.Lists.{IsIn-filter, slice_get-some}
 use Rattle.tree_laws.proofs.Tops.{is_above-from}
-use Rattle.attributes.specs.Attributes.{floor, area, area_of, volume_under, dynamics_under, vertices, altitude_over}
+use Rattle.attributes.specs.Attributes.{floor, area, area_of, volume_under, dynamics_under, vertices_below, altitude_over}
 use Rattle.attributes.proofs.LowFloors.{least-le, in-mapped, floors-low}
 use Rattle.watershed_cut.specs.MinimumTests.{vertex_label}
 use Rattle.watershed_cut.specs.Plateaus.{IsPlateau}
@@ -75,14 +75,14 @@ worth-some g h kind c x hc hx over low = by kind
     t : ParentTree
     t = graph_tree g
 
-    there : IsIn x (vertices t c)
+    there : IsIn x (vertices_below t c)
     there = IsIn-filter (is_above t c) x (range_with_len 0 t.leaves) (is_above-from t (of-graph g h).climbs c x (leaf-node t (of-graph g h).well_formed x hx) over) (range-from 0 g.n x (omega arith) (omega arith))
 
     by : (k : Kind) → 1 ≤ get_or (graph_values g k) c 0
-    by kinds.Area = subst (λ (z : ℕ). 1 ≤ z) (sym (get_or-map-range_with_len (λ i. area_of g (vertices t i)) 0 (length t.parents) c c 0 hc (omega arith)))
-        (let part = part-of_sum (area g) (vertices t c) x there in let some' = area-some g h x hx in omega (arith, part, some'))
-    by kinds.Volume = subst (λ (z : ℕ). 1 ≤ z) (sym (get_or-map-range_with_len (λ i. volume_under g (altitude_over t i) (vertices t i)) 0 (length t.parents) c c 0 hc (omega arith)))
-        (let part = part-of_sum (λ y. area g y * (altitude_over t c - floor g y)) (vertices t c) x there in
+    by kinds.Area = subst (λ (z : ℕ). 1 ≤ z) (sym (get_or-map-range_with_len (λ i. area_of g (vertices_below t i)) 0 (length t.parents) c c 0 hc (omega arith)))
+        (let part = part-of_sum (area g) (vertices_below t c) x there in let some' = area-some g h x hx in omega (arith, part, some'))
+    by kinds.Volume = subst (λ (z : ℕ). 1 ≤ z) (sym (get_or-map-range_with_len (λ i. volume_under g (altitude_over t i) (vertices_below t i)) 0 (length t.parents) c c 0 hc (omega arith)))
+        (let part = part-of_sum (λ y. area g y * (altitude_over t c - floor g y)) (vertices_below t c) x there in
         let some' = product-some (area g x) (altitude_over t c - floor g x) (area-some g h x hx) (omega arith) in omega (arith, part, some'))
-    by kinds.Dynamics = subst (λ (z : ℕ). 1 ≤ z) (sym (get_or-map-range_with_len (λ i. dynamics_under g (altitude_over t i) (vertices t i)) 0 (length t.parents) c c 0 hc (omega arith)))
-        (let most = least-le (map (floor g) (vertices t c)) (floor g x) (in-mapped (floor g) (vertices t c) x there) in omega (arith, most, low))
+    by kinds.Dynamics = subst (λ (z : ℕ). 1 ≤ z) (sym (get_or-map-range_with_len (λ i. dynamics_under g (altitude_over t i) (vertices_below t i)) 0 (length t.parents) c c 0 hc (omega arith)))
+        (let most = least-le (map (floor g) (vertices_below t c)) (floor g x) (in-mapped (floor g) (vertices_below t c) x there) in omega (arith, most, low))

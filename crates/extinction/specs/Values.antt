@@ -8,14 +8,14 @@ use Rattle.hg_base.specs.declared.kind.Kind.{Kind}
 use Rattle.hg_base.specs.declared.kind.Kind.TheVariants as kinds
 
 -- the attributes of this kind, by number of node
-abbrev pub values_of : Kind → AttributeLists → List ℕ
-values_of kinds.Area a = a.areas
-values_of kinds.Volume a = a.volumes
-values_of kinds.Dynamics a = a.dynamics
+abbrev pub attribute_values : Kind → AttributeLists → List ℕ
+attribute_values kinds.Area a = a.areas
+attribute_values kinds.Volume a = a.volumes
+attribute_values kinds.Dynamics a = a.dynamics
 
 -- the attributes of this kind of the nodes of a graph's tree
 abbrev pub graph_values : WeightedGraph → Kind → List ℕ
-graph_values g kind = values_of kind (attributes_of g)
+graph_values g kind = attribute_values kind (attributes_of g)
 
 -- tree, attributes and minima are those of the graph
 pub record AreOf (g : WeightedGraph) (t : ParentTree) (a : AttributeLists) (m : LabelledMinima) : Type 0 where

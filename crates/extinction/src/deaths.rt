@@ -1,6 +1,6 @@
 ghost use Rattle.std.specs.Prelude.{◌≡◌, ℕ, ◌<◌, length, replicate, IfOk};
 ghost use Rattle.hg_base.specs.Graph.{WeightedGraph};
-ghost use Rattle.extinction.specs.Values.{values_of, AreOf, AreOfOne};
+ghost use Rattle.extinction.specs.Values.{attribute_values, AreOf, AreOfOne};
 ghost use Rattle.extinction.specs.Survivors.{extinctions_of};
 ghost use Rattle.extinction.specs.NodeSurvivors.{dying_after, AreSurvivors, AreRootsFrom, AreDeathsFrom};
 
@@ -56,9 +56,9 @@ fn note_roots(
     values: &mut [u64],
 )
     requires one { AreOfOne tree.now attributes.now minima.now }
-    requires survivors { AreSurvivors tree.now minima.now (values_of kind attributes.now) survivors.now.pairs.items survivors.now.labels.items }
+    requires survivors { AreSurvivors tree.now minima.now (attribute_values kind attributes.now) survivors.now.pairs.items survivors.now.labels.items }
     requires values { values.old ≡ replicate minima.now.count 0 }
-    ensures { AreRootsFrom tree.now minima.now (values_of kind attributes.now) survivors.now.labels.items 0 values.new }
+    ensures { AreRootsFrom tree.now minima.now (attribute_values kind attributes.now) survivors.now.labels.items 0 values.new }
 {
     let _ = minima;
     for i in (0..tree.nodes()).rev() {
@@ -79,9 +79,9 @@ fn note_deaths(
     values: &mut [u64],
 )
     requires one { AreOfOne tree.now attributes.now minima.now }
-    requires survivors { AreSurvivors tree.now minima.now (values_of kind attributes.now) survivors.now.pairs.items survivors.now.labels.items }
-    requires values { AreRootsFrom tree.now minima.now (values_of kind attributes.now) survivors.now.labels.items 0 values.old }
-    ensures { AreDeathsFrom tree.now minima.now (values_of kind attributes.now) survivors.now.labels.items 0 values.new }
+    requires survivors { AreSurvivors tree.now minima.now (attribute_values kind attributes.now) survivors.now.pairs.items survivors.now.labels.items }
+    requires values { AreRootsFrom tree.now minima.now (attribute_values kind attributes.now) survivors.now.labels.items 0 values.old }
+    ensures { AreDeathsFrom tree.now minima.now (attribute_values kind attributes.now) survivors.now.labels.items 0 values.new }
 {
     let _ = minima;
     for i in (tree.leaves()..tree.nodes()).rev() {
@@ -98,7 +98,7 @@ fn dying(attributes: &Attributes, kind: Kind, labels: &[u32], a: u32, b: u32) ->
     requires nodes { length labels.now ≡ length attributes.now.areas }
     requires first { a < length labels.now }
     requires second { b < length labels.now }
-    ensures { result ≡ dying_after (values_of kind attributes.now) labels.now a b }
+    ensures { result ≡ dying_after (attribute_values kind attributes.now) labels.now a b }
 {
     if labels[a as usize] == 0 || labels[b as usize] == 0 {
         None

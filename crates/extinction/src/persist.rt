@@ -1,6 +1,6 @@
 ghost use Rattle.std.specs.Prelude.{◌≡◌, ℕ, ◌<◌, ◌≤◌, length, IfOk};
 ghost use Rattle.hg_base.specs.Graph.{WeightedGraph};
-ghost use Rattle.extinction.specs.Values.{values_of, AreOf, AreOfOne};
+ghost use Rattle.extinction.specs.Values.{attribute_values, AreOf, AreOfOne};
 ghost use Rattle.extinction.specs.Persistence.{persistences_of};
 ghost use Rattle.extinction.specs.NodeSurvivors.{value_after};
 
@@ -54,7 +54,7 @@ fn value(attributes: &Attributes, kind: Kind, labels: &[u32], a: u32, b: u32) ->
     requires nodes { length labels.now ≡ length attributes.now.areas }
     requires first { a < length labels.now }
     requires second { b < length labels.now }
-    ensures { result ≡ value_after (values_of kind attributes.now) labels.now a b }
+    ensures { result ≡ value_after (attribute_values kind attributes.now) labels.now a b }
 {
     if labels[a as usize] == 0 || labels[b as usize] == 0 {
         return 0;

@@ -1,5 +1,5 @@
 ghost use Rattle.std.specs.Prelude.{◌≡◌, ◌<◌, ◌≤◌, length, slice_index, IfOk};
-ghost use Rattle.extinction.specs.Values.{values_of, AreOfOne};
+ghost use Rattle.extinction.specs.Values.{attribute_values, AreOfOne};
 ghost use Rattle.extinction.specs.Survivors.{dies};
 ghost use Rattle.extinction.specs.NodeSurvivors.{label_after, AreSurvivors};
 
@@ -29,7 +29,7 @@ impl Survivors {
         kind: Kind,
     ) -> Result<Survivors, AllocError>
         requires { AreOfOne tree.now attributes.now minima.now }
-        ensures { IfOk result (λ s. AreSurvivors tree.now minima.now (values_of kind attributes.now) s.pairs.items s.labels.items) }
+        ensures { IfOk result (λ s. AreSurvivors tree.now minima.now (attribute_values kind attributes.now) s.pairs.items s.labels.items) }
     {
         let pairs = child_pairs(alloc, tree)?;
         let mut labels = own_labels(alloc, tree, minima)?;
@@ -48,7 +48,7 @@ fn survivor(attributes: &Attributes, kind: Kind, labels: &[u32], a: u32, b: u32,
     requires within { i < length labels.now }
     requires first { a < i }
     requires second { b < i }
-    ensures { result ≡ label_after (values_of kind attributes.now) labels.now a b (slice_index labels.now i) }
+    ensures { result ≡ label_after (attribute_values kind attributes.now) labels.now a b (slice_index labels.now i) }
 {
     let (first, second) = (labels[a as usize], labels[b as usize]);
     if first != 0 && second != 0 {
@@ -71,7 +71,7 @@ pub(crate) fn dies(attributes: &Attributes, kind: Kind, labels: &[u32], a: u32, 
     requires nodes { length labels.now ≡ length attributes.now.areas }
     requires first { a < length labels.now }
     requires second { b < length labels.now }
-    ensures { result ≡ dies (values_of kind attributes.now) labels.now a b }
+    ensures { result ≡ dies (attribute_values kind attributes.now) labels.now a b }
 {
     let (first, second) = (value_by(kind, attributes, a), value_by(kind, attributes, b));
     first < second || first == second && labels[b as usize] < labels[a as usize]

@@ -15,7 +15,7 @@ use Rattle.tile_plan.specs.Plan.{IsAnswer, TilePlan, tile_count}
 use Rattle.tile_plan.specs.declared.fault.PlanFault.{PlanFault}
 use Rattle.tile_plan.specs.declared.fault.PlanFault.TheVariants as plans
 use Rattle.graph_hierarchy.specs.Hierarchies.{IsHierarchyMade, IsHierarchyOf, IsTreeOf, hierarchy_fault}
-use Rattle.graph_hierarchy.specs.Tilings.{AreTiles, order_in, plan_in, receipt_in, receipt_over}
+use Rattle.graph_hierarchy.specs.Tilings.{AreTiles, plan_order, plan_in, receipt_in, receipt_over}
 use Rattle.graph_hierarchy.specs.declared.fault.HierarchyFault.{HierarchyFault}
 use Rattle.graph_hierarchy.specs.declared.hierarchy.GraphHierarchy.{GraphHierarchy}
 use Rattle.graph_hierarchy.specs.declared.tiling.Tiling.{Tiling}
@@ -26,12 +26,12 @@ pub tree_is : (g : WeightedGraph) (t : ParentTree) → IsGraph g → t ≡ graph
 tree_is g t graph same forest = record { same = same; well_formed = forest; rises = subst AltitudesRise (sym same) (tree-rises g.n (ranked g) (AreApart-ranked g) (AreByWeight-ranked g)); graph = graph }
 
 -- the plan of a graph is over its vertices and its ranked edges
-order-own : (g : WeightedGraph) (tiling : Tiling) → AreTiles tiling g.n → order_of g ≡ order_in (plan_in g tiling)
+order-own : (g : WeightedGraph) (tiling : Tiling) → AreTiles tiling g.n → order_of g ≡ plan_order (plan_in g tiling)
 order-own g (Blocks size) are = let one : g.n ≡ g.n * 1 = omega arith in ap (λ (n : ℕ). record { n = n; edges = ranked g }) one
 order-own g (Squares width height side) are = ap (λ (n : ℕ). record { n = n; edges = ranked g }) (sym are.1)
 
-pub order_over : (g : WeightedGraph) (tiling : Tiling) (order : EdgeOrder) (plan : TilePlan) → AreTiles tiling g.n → order ≡ order_of g → IsAnswer (plan_in g tiling) (Ok plan) → order ≡ order_in plan
-order_over g tiling order plan are same answer = same ∙ order-own g tiling are ∙ ap order_in (sym answer.0)
+pub order_over : (g : WeightedGraph) (tiling : Tiling) (order : EdgeOrder) (plan : TilePlan) → AreTiles tiling g.n → order ≡ order_of g → IsAnswer (plan_in g tiling) (Ok plan) → order ≡ plan_order plan
+order_over g tiling order plan are same answer = same ∙ order-own g tiling are ∙ ap plan_order (sym answer.0)
 
 -- its edges are as many as the graph's
 edges-own : (g : WeightedGraph) (tiling : Tiling) → length (plan_in g tiling).edges ≡ length g.edges

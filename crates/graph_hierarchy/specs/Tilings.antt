@@ -18,8 +18,8 @@ plan_in g (Blocks size) = blocks g size
 plan_in g (Squares width height side) = squares g width height side
 
 -- the order of a plan's edges, beside the number of its vertices
-abbrev pub order_in : TilePlan → EdgeOrder
-order_in p = record { n = vertices p; edges = p.edges }
+abbrev pub plan_order : TilePlan → EdgeOrder
+plan_order p = record { n = vertices p; edges = p.edges }
 
 -- the receipt of a plan's board of so many workers
 abbrev pub receipt_over : TilePlan → ℕ → ReceiptState

@@ -5,7 +5,7 @@ ghost use Rattle.edge_order.specs.Order.{order_of};
 ghost use Rattle.merge_board.specs.Fits.{Fits};
 ghost use Rattle.tile_plan.specs.Plan.{IsAnswer, IsPlan, edges_at, root};
 ghost use Rattle.graph_hierarchy.specs.Hierarchies.{IsHierarchyMade, IsTreeOf};
-ghost use Rattle.graph_hierarchy.specs.Tilings.{AreTiles, order_in, plan_in, receipt_over};
+ghost use Rattle.graph_hierarchy.specs.Tilings.{AreTiles, plan_order, plan_in, receipt_over};
 
 use super::fault::HierarchyFault;
 use super::tiling::Tiling;
@@ -90,7 +90,7 @@ fn tree_of<G: Gate>(
     gate: &G,
 ) -> Result<(Tree, Receipt), OutOfMemory>
     requires order { order.now ≡ order_of graph.now }
-    requires plan { order.now ≡ order_in plan.now }
+    requires plan { order.now ≡ plan_order plan.now }
     requires some { 1 ≤ workers }
     requires few { workers ≤ 64 }
     ensures tree { IfOk result (λ made. IsTreeOf graph.now made.0) }
@@ -98,9 +98,8 @@ fn tree_of<G: Gate>(
 {
     let (part, receipt) = merged(rt, alloc, plan, workers, gate)?;
     let tree = Tree::of_part_in_threads(rt, alloc, order, plan, &part)?;
-    // That the tree is well formed, and that the graph keeps to its limits.
-    let _ = tree.nodes();
-    let _ = graph.n();
+    tree.keeps_its_rules();
+    graph.keeps_its_rules();
     Ok((tree, receipt))
 }
 
@@ -119,8 +118,7 @@ fn merged<G: Gate>(
     ensures stands { IfOk result (λ made. Stands made.0 (edges_at plan.now (root plan.now))) }
     ensures receipt { IfOk result (λ made. made.1 ≡ receipt_over plan.now workers) }
 {
-    // That the plan keeps to what every plan does.
-    let _ = plan.tiles();
+    plan.keeps_its_rules();
     let (board, mut seats) = Board::set_up(alloc, plan, workers)?;
     hierarchy(rt, &board, &mut seats, plan, gate);
     Ok(board.close(plan, seats))

@@ -13,7 +13,7 @@ use Rattle.graph_reader.specs.declared.parser.Stage.{Stage}
 use Rattle.graph_reader.specs.declared.parser.Stage.TheVariants as stages
 use Rattle.input_tokens.specs.Tokens.{PlacedToken, blanked, tokens_from, ended}
 use Rattle.graph_reader.specs.EdgeList.{edge_list, settles}
-use Rattle.input_tokens.specs.Lexing.{meaning_with, lexed, placed, AreThree}
+use Rattle.input_tokens.specs.Lexing.{meaning_with, lexed, placed_token, AreThree}
 use Rattle.graph_reader.specs.Parsing.{Parsing, Takes, TakesThree, reading_at, settling, is_over, is_out_of_memory, is_counting, KeepsMemory}
 use Rattle.input_tokens.specs.Progress.{Answers}
 use Rattle.input_tokens.proofs.Answering.{back, answered as any-answered}
@@ -157,9 +157,9 @@ pub read-three : (p q : Parsing) (n : ℕ) (more bytes : List ℕ) (u v w : Foun
 unfolding reading_on settles_with
 read-three p q n more bytes u v w takes tokens read =
     let lexes = tokens.3 in
-    let x = placed u tokens.0 in
-    let y = placed v tokens.1 in
-    let z = placed w tokens.2 in
+    let x = placed_token u tokens.0 in
+    let y = placed_token v tokens.1 in
+    let z = placed_token w tokens.2 in
     record {
       taken = rw (length-append, read.taken) refl;
       reading = λ memory rest.

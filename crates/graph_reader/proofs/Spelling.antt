@@ -11,7 +11,7 @@ use Rattle.input_tokens.specs.declared.token.Token.{Token}
 use Rattle.input_tokens.specs.declared.token.Token.TheVariants.{Graph, GraphWithAreas, Number, Other}
 use Rattle.input_tokens.specs.Tokens.{PlacedToken, tokens}
 use Rattle.input_tokens.specs.Rules.{◌>>=◌, within_limit, number_read, fault}
-use Rattle.graph_reader.specs.EdgeList.{next, need, first_word, vertices, edges, area, first_end_read, second_end_read, weight_read, edge, several, areas, whole, graph, edge_list}
+use Rattle.graph_reader.specs.EdgeList.{next_token, need, first_word, vertices, edges, area, first_end_read, second_end_read, weight_read, edge, several, areas, whole, graph, edge_list}
 use Rattle.graph_reader.specs.Spelling.{edge_tokens, area_tokens, graph_tokens, IsEdge, Spells}
 
 abbrev says : PlacedToken → Token
@@ -85,7 +85,7 @@ edge-one n end x ts rest p e =
 
 word-says : (with_areas : Bool) (missing : Result (Bool × List PlacedToken) InputFault) (a : Token) (ts : List PlacedToken) (rest : List Token)
     → map says ts ≡ a ∷ rest → ((at : ℕ) → first_word at a ≡ Ok with_areas)
-    → (after : List PlacedToken) × (next missing first_word ts ≡ Ok (with_areas, after)) × (map says after ≡ rest)
+    → (after : List PlacedToken) × (next_token missing first_word ts ≡ Ok (with_areas, after)) × (map says after ≡ rest)
 word-says with_areas missing a [] rest e r = cc
 word-says with_areas missing a (t ∷ ts) rest e r =
     let said : t.token ≡ a = cc in
@@ -296,7 +296,7 @@ first_word-ok at GraphWithAreas false e = cc
 first_word-ok at (Number n) b e = cc
 first_word-ok at Other b e = cc
 
-word-ok : (end : ℕ) (ts : List PlacedToken) (b : Bool) (after : List PlacedToken) → next (fault UnknownForm end 0) first_word ts ≡ Ok (b, after)
+word-ok : (end : ℕ) (ts : List PlacedToken) (b : Bool) (after : List PlacedToken) → next_token (fault UnknownForm end 0) first_word ts ≡ Ok (b, after)
     → map says ts ≡ word_of b ∷ map says after
 word-ok end [] b after e = cc
 word-ok end (t ∷ ts) b after e =
@@ -348,7 +348,7 @@ pub graph-ok : (bytes : List ℕ) (g : WeightedGraph) → edge_list bytes ≡ Ok
 unfolding edge_list graph
 graph-ok bytes g e =
     let end = length bytes in
-    let w = ok-split (next (fault UnknownForm end 0) first_word (tokens bytes)) (with_word end) g e in
+    let w = ok-split (next_token (fault UnknownForm end 0) first_word (tokens bytes)) (with_word end) g e in
     let n = ok-split (need end vertices w.0.1) (with_vertices end w.0.0) g w.2 in
     let m = ok-split (need end edges n.0.1) (with_edges end w.0.0 n.0.0) g n.2 in
     let a = ok-split (areas w.0.0 n.0.0 end m.0.1) (with_room end n.0.0 m.0.0) g m.2 in

@@ -49,15 +49,15 @@ weight_read at token = do
   within_limit 4294967295 at w
 
 -- the next token by its rule, and the tokens after it; missing is the fault where there is none
-abbrev pub next : {A : Type 0} → Result (A × List PlacedToken) InputFault → (ℕ → Token → Result A InputFault) → List PlacedToken → Result (A × List PlacedToken) InputFault
-next missing rule [] = missing
-next missing rule (t ∷ ts) = do
+abbrev pub next_token : {A : Type 0} → Result (A × List PlacedToken) InputFault → (ℕ → Token → Result A InputFault) → List PlacedToken → Result (A × List PlacedToken) InputFault
+next_token missing rule [] = missing
+next_token missing rule (t ∷ ts) = do
   x ← rule t.from t.token
   Ok (x, ts)
 
 -- the next token of an input that ends at this place
 abbrev pub need : {A : Type 0} → ℕ → (ℕ → Token → Result A InputFault) → List PlacedToken → Result (A × List PlacedToken) InputFault
-need end rule ts = next (fault Truncated end 0) rule ts
+need end rule ts = next_token (fault Truncated end 0) rule ts
 
 -- one after another, as many as said
 unfoldable pub several : {A : Type 0} → ℕ → (List PlacedToken → Result (A × List PlacedToken) InputFault) → List PlacedToken → Result (List A × List PlacedToken) InputFault
@@ -87,7 +87,7 @@ whole g (t ∷ ts) = fault Trailing t.from 0
 -- the graph that these tokens of an input with this end spell, or the first fault
 unfoldable pub graph : ℕ → List PlacedToken → Result WeightedGraph InputFault
 graph end ts = do
-  with_areas ← next (fault UnknownForm end 0) first_word ts
+  with_areas ← next_token (fault UnknownForm end 0) first_word ts
   n ← need end vertices with_areas.1
   m ← need end edges n.1
   a ← areas with_areas.0 n.0 end m.1

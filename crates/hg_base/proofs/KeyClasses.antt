@@ -5,7 +5,7 @@ use Rattle.std.specs.List.{range_with_len}
 use Rattle.std.proofs.lemmas.Bool.{cond-true, eq-eqb, eqb-true}
 use Rattle.hg_base.specs.Counting.{count_below, is_least}
 use Rattle.hg_base.specs.Labels.{Labelling, IsLabelling, least_of, class_label, labelling}
-use Rattle.hg_base.specs.Numbering.{is_one_key, has_key, same_key, is_head, key_label}
+use Rattle.hg_base.specs.Numbering.{is_one_key, has_key, same_key, is_class_head, key_label}
 use Rattle.hg_base.proofs.Counts.{count_below-agree}
 use Rattle.hg_base.proofs.Leasts.{IsClassing, least_of-most, map-agree, labelling-agree, IsLabelling-of}
 
@@ -18,7 +18,7 @@ has_key-of : (keys : List (Option ℕ)) (n : ℕ) (f : ℕ → ℕ) → AreKeys 
 has_key-of keys n f k x h = rw (k x h) refl
 
 -- heads are the least members
-heads-of : (keys : List (Option ℕ)) (n : ℕ) (f : ℕ → ℕ) → AreKeys keys n f → (x : ℕ) → x < n → is_head keys x ≡ is_least (same_key keys) x
+heads-of : (keys : List (Option ℕ)) (n : ℕ) (f : ℕ → ℕ) → AreKeys keys n f → (x : ℕ) → x < n → is_class_head keys x ≡ is_least (same_key keys) x
 heads-of keys n f k x h = ap (λ (b : Bool). b && is_least (same_key keys) x) (has_key-of keys n f k x h)
 
 -- one key is one value
@@ -36,13 +36,13 @@ pub record AreLabels (n : ℕ) (labels : List ℕ) (count : ℕ) (r : ℕ → �
   pub fit : IsLabelling (labelling r n)
 
 pub labels-by_keys : (keys : List (Option ℕ)) (n : ℕ) (f : ℕ → ℕ) (r : ℕ → ℕ → Bool) → AreKeys keys n f → IsClassing n r → ((x y : ℕ) → x < n → y < n → r x y ≡ same_key keys x y) → 1 ≤ n → n ≤ 1048576 →
-    AreLabels n (map (key_label keys) (range_with_len 0 n)) (count_below (is_head keys) n) r
+    AreLabels n (map (key_label keys) (range_with_len 0 n)) (count_below (is_class_head keys) n) r
 labels-by_keys keys n f r k c agree some few = record {
   result =
-      let with_labels : List ℕ → Labelling = λ l. record { labels = l; count = count_below (is_head keys) n } in
+      let with_labels : List ℕ → Labelling = λ l. record { labels = l; count = count_below (is_class_head keys) n } in
       let with_count : ℕ → Labelling = λ m. record { labels = map (class_label (same_key keys)) (range_with_len 0 n); count = m } in
       ap with_labels (map-agree (key_label keys) (class_label (same_key keys)) 0 n (λ x l h. same_label x (omega arith)))
-      ∙ ap with_count (count_below-agree (is_head keys) (is_least (same_key keys)) n (heads-of keys n f k))
+      ∙ ap with_count (count_below-agree (is_class_head keys) (is_least (same_key keys)) n (heads-of keys n f k))
       ∙ sym (labelling-agree n r (same_key keys) c agree);
   fit = IsLabelling-of n r c some few;
 }
@@ -54,7 +54,7 @@ labels-by_keys keys n f r k c agree some few = record {
     same_label x h =
         let most = least_of-most (same_key keys) x (self x h) in
         cond-true (has_key keys x) _ _ (has_key-of keys n f k x h)
-        ∙ ap (λ (m : ℕ). suc m) (count_below-agree (is_head keys) (is_least (same_key keys)) (least_of (same_key keys) x) (λ y l. heads-of keys n f k y (omega arith)))
+        ∙ ap (λ (m : ℕ). suc m) (count_below-agree (is_class_head keys) (is_least (same_key keys)) (least_of (same_key keys) x) (λ y l. heads-of keys n f k y (omega arith)))
 
 -- keys that agree with a test make classes of it
 pub classing-of_keys : (keys : List (Option ℕ)) (n : ℕ) (f : ℕ → ℕ) (r : ℕ → ℕ → Bool) → AreKeys keys n f → ((x y : ℕ) → x < n → y < n → r x y ≡ same_key keys x y) → IsClassing n r

@@ -9,7 +9,7 @@ use Rattle.std.proofs.lemmas.Bool.{cases_order, both_ways, true≢false, false_f
 use Rattle.std.proofs.lemmas.List.{get_or-set_same, get_or-set_other}
 use Rattle.hg_base.specs.Counting.{count_below, is_least}
 use Rattle.hg_base.specs.Labels.{least_of}
-use Rattle.hg_base.specs.Numbering.{is_one_key, has_key, same_key, is_head, key_label, AreNumbers}
+use Rattle.hg_base.specs.Numbering.{is_one_key, has_key, same_key, is_class_head, key_label, AreNumbers}
 use Rattle.hg_base.proofs.Counts.{least_below, is_least-from, is_least-to}
 use Rattle.hg_base.proofs.Leasts.{least_of-fresh, least_of-agree}
 
@@ -32,37 +32,37 @@ has-key : (keys : List (Option ℕ)) (x i : ℕ) → get_or keys x None ≡ Some
 has-key keys x i p = rw p refl
 
 -- what has no key gets 0, and is no head
-pub label-none : (keys : List (Option ℕ)) (x : ℕ) → get_or keys x None ≡ None → (key_label keys x ≡ 0) × (is_head keys x ≡ false)
+pub label-none : (keys : List (Option ℕ)) (x : ℕ) → get_or keys x None ≡ None → (key_label keys x ≡ 0) × (is_class_head keys x ≡ false)
 label-none keys x p = let off : has_key keys x ≡ false = rw p refl in (cond-false (has_key keys x) _ _ off, and_left _ _ off)
 
 -- what has the key of an earlier one gets its label, and is no head
-pub label-old : (keys : List (Option ℕ)) (x y i : ℕ) → y < x → get_or keys x None ≡ Some i → get_or keys y None ≡ Some i → (key_label keys x ≡ key_label keys y) × (is_head keys x ≡ false)
+pub label-old : (keys : List (Option ℕ)) (x y i : ℕ) → y < x → get_or keys x None ≡ Some i → get_or keys y None ≡ Some i → (key_label keys x ≡ key_label keys y) × (is_class_head keys x ≡ false)
 label-old keys x y i lt p q =
     let least : least_of (same_key keys) x ≡ least_of (same_key keys) y =
     least_of-agree (same_key keys) (same_key keys) x y (one_key-from _ _ i p p) (one_key-from _ _ i q q) (λ z l. same_key-rows keys x y i p q z) in (
-      cond-true (has_key keys x) _ _ (has-key keys x i p) ∙ ap (λ (e : ℕ). suc (count_below (is_head keys) e)) least ∙ sym (cond-true (has_key keys y) _ _ (has-key keys y i q)),
+      cond-true (has_key keys x) _ _ (has-key keys x i p) ∙ ap (λ (e : ℕ). suc (count_below (is_class_head keys) e)) least ∙ sym (cond-true (has_key keys y) _ _ (has-key keys y i q)),
       and_right _ _ (false_from_ne_true (is_least (same_key keys) x) (λ h. both_ways _ (is_least-to (same_key keys) x h y lt) (one_key-from _ _ i p q))),
     )
 
 -- what has a new key gets the next label, and is a head
 pub label-new : (keys : List (Option ℕ)) (x i : ℕ) → get_or keys x None ≡ Some i → ((y : ℕ) → y < x → get_or keys y None ≡ Some i → ⊥) →
-    (key_label keys x ≡ suc (count_below (is_head keys) x)) × (is_head keys x ≡ true)
+    (key_label keys x ≡ suc (count_below (is_class_head keys) x)) × (is_class_head keys x ≡ true)
 label-new keys x i p new =
     let fresh : (y : ℕ) → y < x → same_key keys x y ≡ false = λ y l. false_from_ne_true (same_key keys x y) (λ h. new y l (one_key-to _ _ i p h)) in
     let least : least_of (same_key keys) x ≡ x = least_of-fresh (same_key keys) x (one_key-from _ _ i p p) fresh in (
-      cond-true (has_key keys x) _ _ (has-key keys x i p) ∙ ap (λ (e : ℕ). suc (count_below (is_head keys) e)) least,
+      cond-true (has_key keys x) _ _ (has-key keys x i p) ∙ ap (λ (e : ℕ). suc (count_below (is_class_head keys) e)) least,
       and_from _ _ (has-key keys x i p) (is_least-from (same_key keys) x fresh),
     )
 
 -- the count goes on
-count-on : (keys : List (Option ℕ)) (x : ℕ) → is_head keys x ≡ true → count_below (is_head keys) (x + 1) ≡ count_below (is_head keys) x + 1
-count-on keys x h = let e : x + 1 ≡ suc x = omega arith in ap (count_below (is_head keys)) e ∙ ap (λ (b : Bool). count_below (is_head keys) x + cond b 1 0) h
+count-on : (keys : List (Option ℕ)) (x : ℕ) → is_class_head keys x ≡ true → count_below (is_class_head keys) (x + 1) ≡ count_below (is_class_head keys) x + 1
+count-on keys x h = let e : x + 1 ≡ suc x = omega arith in ap (count_below (is_class_head keys)) e ∙ ap (λ (b : Bool). count_below (is_class_head keys) x + cond b 1 0) h
 
-count-same : (keys : List (Option ℕ)) (x : ℕ) → is_head keys x ≡ false → count_below (is_head keys) (x + 1) ≡ count_below (is_head keys) x
+count-same : (keys : List (Option ℕ)) (x : ℕ) → is_class_head keys x ≡ false → count_below (is_class_head keys) (x + 1) ≡ count_below (is_class_head keys) x
 count-same keys x h =
     let e : x + 1 ≡ suc x = omega arith in
-    let none' : count_below (is_head keys) x + 0 ≡ count_below (is_head keys) x = omega arith in
-    ap (count_below (is_head keys)) e ∙ ap (λ (b : Bool). count_below (is_head keys) x + cond b 1 0) h ∙ none'
+    let none' : count_below (is_class_head keys) x + 0 ≡ count_below (is_class_head keys) x = omega arith in
+    ap (count_below (is_class_head keys)) e ∙ ap (λ (b : Bool). count_below (is_class_head keys) x + cond b 1 0) h ∙ none'
 
 -- x or an earlier one
 up_to : (x y : ℕ) → y < x + 1 → (y ≡ x) ⊎ (y < x)
@@ -140,7 +140,7 @@ numbers-new keys x numbers count k a p l zero' =
     unmet_before : (y : ℕ) → y < x → get_or keys y None ≡ Some k → ⊥
     unmet_before y low q =
         let e : key_label keys y ≡ 0 = sym (a.met y k low q) ∙ zero' in
-        let f : key_label keys y ≡ suc (count_below (is_head keys) (least_of (same_key keys) y)) = cond-true (has_key keys y) _ _ (has-key keys y k q) in
+        let f : key_label keys y ≡ suc (count_below (is_class_head keys) (least_of (same_key keys) y)) = cond-true (has_key keys y) _ _ (has-key keys y k q) in
         omega arith
 
     here : key_label keys x ≡ count + 1 → (y j : ℕ) → y ≡ x → get_or keys y None ≡ Some j → get_or (set numbers k (count + 1)) j 0 ≡ key_label keys y

@@ -2,6 +2,7 @@ pub mod Graph
 pub mod GraphFields
 pub mod GraphFaults
 pub mod Text
+pub mod Samples
 pub mod Fault
 pub mod Outside
 pub mod Labels

@@ -1,7 +1,7 @@
 ghost use Rattle.std.specs.Prelude.{◌≡◌, ◌+◌, ◌<◌, ◌≤◌, All, length, map, IfOk, IfSome, Option, ℕ};
 ghost use Rattle.std.specs.List.{range_with_len};
 ghost use Rattle.hg_base.specs.Counting.{count_below};
-ghost use Rattle.hg_base.specs.Numbering.{is_head, key_label, AreNumbers};
+ghost use Rattle.hg_base.specs.Numbering.{is_class_head, key_label, AreNumbers};
 
 use std::alloc::{AllocError, Global};
 
@@ -18,7 +18,7 @@ pub fn number_keys(alloc: Global, keys: &[Option<u32>], bound: u32) -> Result<Nu
     requires few { length keys.now ≤ 1048576 }
     requires below { All (λ (key : Option ℕ). IfSome key (λ k. k < bound)) keys.now }
     ensures labels { IfOk result (λ numbering. numbering.labels.items ≡ map (key_label keys.now) (range_with_len 0 (length keys.now))) }
-    ensures count { IfOk result (λ numbering. numbering.count ≡ count_below (is_head keys.now) (length keys.now)) }
+    ensures count { IfOk result (λ numbering. numbering.count ≡ count_below (is_class_head keys.now) (length keys.now)) }
 {
     let mut numbers = vec![in alloc; 0; bound as usize]?;
     let mut labels = Vec::with_capacity(alloc, keys.len())?;

@@ -12,7 +12,7 @@ use Rattle.memchr.specs.Find.{IsFirstByte, is_byte}
 use Rattle.hg_base.specs.declared.fault.InputFault.{InputFault}
 use Rattle.higra_input.specs.declared.input.Input.{Input}
 use Rattle.hg_batch.specs.Cutting.{reads, values}
-use Rattle.hg_batch.specs.Pieces.{all_vertices, led_by, pieces, reading, readings, vertices}
+use Rattle.hg_batch.specs.Pieces.{all_vertices, led_by, pieces, piece_reading, readings, piece_vertices}
 use Rattle.hg_batch.specs.declared.cutting.Piece.{Piece}
 
 -- the byte is a form feed
@@ -127,20 +127,20 @@ pub rest_shorter : (n : ℕ) (bs : List ℕ) → length (take (length bs - n) (d
 rest_shorter n bs = let same = ap (λ (xs : List ℕ). length xs) (take_rest n bs) in omega (arith, same, length-drop n bs)
 
 -- the first piece of what is left was read
-pub read_more : (read read' all : Readings) (rest piece : List ℕ) (end : ℕ) → position is_cut rest ≡ Some end → piece ≡ take end rest → read' ≡ read ++ (reading piece ∷ []) → read ++ readings rest ≡ all
+pub read_more : (read read' all : Readings) (rest piece : List ℕ) (end : ℕ) → position is_cut rest ≡ Some end → piece ≡ take end rest → read' ≡ read ++ (piece_reading piece ∷ []) → read ++ readings rest ≡ all
     → read' ++ readings (take (length rest - (end + 1)) (drop (end + 1) rest)) ≡ all
 read_more read read' all rest piece end is cut more so_far =
     let left : take (length rest - (end + 1)) (drop (end + 1) rest) ≡ drop (suc end) rest = take_rest (end + 1) rest ∙ ap (λ (n : ℕ). drop n rest) (add-one end) in
-    let now : readings rest ≡ reading piece ∷ readings (drop (suc end) rest) = ap (λ (ps : List (List ℕ)). map reading ps) (cut_some rest end is) ∙ ap (λ (bs : List ℕ). reading bs ∷ readings (drop (suc end) rest)) (sym cut) in
+    let now : readings rest ≡ piece_reading piece ∷ readings (drop (suc end) rest) = ap (λ (ps : List (List ℕ)). map piece_reading ps) (cut_some rest end is) ∙ ap (λ (bs : List ℕ). piece_reading bs ∷ readings (drop (suc end) rest)) (sym cut) in
     ap (λ (bs : List ℕ). read' ++ readings bs) left
     ∙ ap (λ (rs : Readings). rs ++ readings (drop (suc end) rest)) more
-    ∙ append_assoc read (reading piece ∷ []) (readings (drop (suc end) rest))
+    ∙ append_assoc read (piece_reading piece ∷ []) (readings (drop (suc end) rest))
     ∙ sym (ap (λ (rs : Readings). read ++ rs) now)
     ∙ so_far
 
 -- the last piece was read
-pub read_last : (read read' all : Readings) (rest : List ℕ) → position is_cut rest ≡ None → read' ≡ read ++ (reading rest ∷ []) → read ++ readings rest ≡ all → read' ≡ all
-read_last read read' all rest is more so_far = more ∙ sym (ap (λ (ps : List (List ℕ)). read ++ map reading ps) (cut_none rest is)) ∙ so_far
+pub read_last : (read read' all : Readings) (rest : List ℕ) → position is_cut rest ≡ None → read' ≡ read ++ (piece_reading rest ∷ []) → read ++ readings rest ≡ all → read' ≡ all
+read_last read read' all rest is more so_far = more ∙ sym (ap (λ (ps : List (List ℕ)). read ++ map piece_reading ps) (cut_none rest is)) ∙ so_far
 
 -- one piece more
 pub values_push : (ps : List Piece) (p : Piece) → values (ps ++ (p ∷ [])) ≡ values ps ++ (reads p ∷ [])
@@ -151,7 +151,7 @@ all_vertices-append [] ss = omega arith
 all_vertices-append (r ∷ rs) ss = let rest = all_vertices-append rs ss in omega (arith, rest)
 
 -- the vertices of one piece more
-pub vertices_more : (ps : List Piece) (k : ℕ) (p : Piece) → k < length ps → p ≡ get_or ps k p → all_vertices (values (take (k + 1) ps)) ≡ all_vertices (values (take k ps)) + vertices (reads p)
+pub vertices_more : (ps : List Piece) (k : ℕ) (p : Piece) → k < length ps → p ≡ get_or ps k p → all_vertices (values (take (k + 1) ps)) ≡ all_vertices (values (take k ps)) + piece_vertices (reads p)
 vertices_more ps k p h is =
     let more : take (k + 1) ps ≡ take k ps ++ (p ∷ []) = ap (λ (n : ℕ). take n ps) (add-one k) ∙ take-suc ps k p h ∙ ap (λ (x : Piece). take k ps ++ (x ∷ [])) (sym is) in
     let same : all_vertices (values (take (k + 1) ps)) ≡ all_vertices (values (take k ps) ++ (reads p ∷ [])) = ap (λ (xs : List Piece). all_vertices (values xs)) more ∙ ap (λ (rs : Readings). all_vertices rs) (values_push (take k ps) p) in

@@ -18,7 +18,7 @@ use Rattle.hg_batch.proofs.PieceLemmas.{count_pieces}
 use Rattle.hg_batch.proofs.TextLemmas.{length-texts_from, texts_by_one}
 use Rattle.hg_batch.specs.Batch.{batch_fault, batch_text, job_fault, texts_from, vertex_fault}
 use Rattle.hg_batch.specs.Getting.{Gets}
-use Rattle.hg_batch.specs.Pieces.{all_vertices, pieces, reading, readings}
+use Rattle.hg_batch.specs.Pieces.{all_vertices, pieces, piece_reading, readings}
 use Rattle.hg_batch.specs.Running.{Ends, EndsWork, HasFault, IsAnswerTo, MakesText, answer_of, batch_request, status_by}
 use Rattle.hg_batch.specs.declared.ending.BatchStatus.{BatchStatus}
 use Rattle.hg_batch.specs.declared.ending.BatchStatus.TheVariants as statuses
@@ -85,7 +85,7 @@ batch_text-by_one request workers bytes rs are =
 
 -- there are as many texts as pieces
 count_of_texts : (request : Request) (bytes : List ℕ) (rs : List (Result Input InputFault)) → rs ≡ readings bytes → length (texts_from request 0 rs) ≡ length (pieces bytes)
-count_of_texts request bytes rs are = length-texts_from request 0 rs ∙ ap (λ (ss : List (Result Input InputFault)). length ss) are ∙ length-map (pieces bytes) reading
+count_of_texts request bytes rs are = length-texts_from request 0 rs ∙ ap (λ (ss : List (Result Input InputFault)). length ss) are ∙ length-map (pieces bytes) piece_reading
 
 -- so there is one at least, and as few as pieces at most
 pub some_texts : (request : Request) (bytes : List ℕ) (rs : List (Result Input InputFault)) → rs ≡ readings bytes → 1 ≤ length (texts_from request 0 rs)

@@ -3,7 +3,7 @@ use Rattle.std.proofs.Common.{◌≡◌, ℕ, ◌+◌, ◌-◌, ◌<◌, ◌≤�
 use Rattle.std.specs.Prelude.{◌==◌, slice_index}
 use Rattle.std.proofs.lemmas.List.{drop_more, map-append, take-append-drop}
 use Rattle.hg_batch.specs.Cutting.{reads, values}
-use Rattle.hg_batch.specs.Pieces.{led_by, pieces, reading, readings}
+use Rattle.hg_batch.specs.Pieces.{led_by, pieces, piece_reading, readings}
 use Rattle.hg_batch.specs.declared.cutting.Piece.{Piece}
 use Rattle.hg_batch.proofs.PieceLemmas.{Readings, count_pieces, pieces_first, pieces_later, take_rest}
 
@@ -44,6 +44,6 @@ read_sides front back all bytes before behind cut within is at_front at_back one
     ∙ map-append reads front back
     ∙ ap (λ (rs : Readings). rs ++ values back) (one ∙ ap readings at_front)
     ∙ ap (λ (rs : Readings). readings (take cut bytes) ++ rs) (other ∙ ap readings rest)
-    ∙ sym (map-append reading (pieces (take cut bytes)) (pieces (drop (cut + 1) bytes)))
-    ∙ ap (λ (ps : List (List ℕ)). map reading ps) (sym (pieces_sides (take cut bytes) (drop (cut + 1) bytes)))
+    ∙ sym (map-append piece_reading (pieces (take cut bytes)) (pieces (drop (cut + 1) bytes)))
+    ∙ ap (λ (ps : List (List ℕ)). map piece_reading ps) (sym (pieces_sides (take cut bytes) (drop (cut + 1) bytes)))
     ∙ ap readings (sym (at_cut bytes cut within is))

@@ -20,13 +20,13 @@ abbrev pub failed_text : ℕ → InputFault → List ℕ
 failed_text i f = codes "job " ++ (decimal i ++ (codes " 3 " ++ (decimal (number_of f.kind) ++ (32 ∷ headed_line (name_of f.kind) (f.at ∷ f.value ∷ [])))))
 
 -- the text of job i that is refused for this reason, or isn't: then its report is this
-abbrev pub text_by : ℕ → Option InputFault → List ℕ → List ℕ
-text_by i None report = done_text i report
-text_by i (Some fault) report = failed_text i fault
+abbrev pub job_text_by : ℕ → Option InputFault → List ℕ → List ℕ
+job_text_by i None report = done_text i report
+job_text_by i (Some fault) report = failed_text i fault
 
 -- the text of job i, whose piece gives this
 unfoldable pub job_text : Request → ℕ → Result Input InputFault → List ℕ
-job_text q i (Ok input) = text_by i (refusal q input) (report_of q input)
+job_text q i (Ok input) = job_text_by i (refusal q input) (report_of q input)
 job_text q i (Err fault) = failed_text i fault
 
 -- the texts of the jobs from i on

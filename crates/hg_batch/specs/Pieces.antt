@@ -17,18 +17,18 @@ pieces [] = [] ∷ []
 pieces (b ∷ bs) = if b == 12 then [] ∷ pieces bs else led_by b (pieces bs)
 
 -- what each piece gives, read as an edge list alone: a graph, or its first fault
-abbrev pub reading : List ℕ → Result Input InputFault
-reading piece = edges_as_input (edge_list piece)
+abbrev pub piece_reading : List ℕ → Result Input InputFault
+piece_reading piece = edges_as_input (edge_list piece)
 
 abbrev pub readings : List ℕ → List (Result Input InputFault)
-readings bytes = map reading (pieces bytes)
+readings bytes = map piece_reading (pieces bytes)
 
 -- how many vertices a piece has that is an edge list
-abbrev pub vertices : Result Input InputFault → ℕ
-vertices (Ok (Edges graph)) = graph.n
-vertices (Ok (Picture raster)) = 0
-vertices (Err fault) = 0
+abbrev pub piece_vertices : Result Input InputFault → ℕ
+piece_vertices (Ok (Edges graph)) = graph.n
+piece_vertices (Ok (Picture raster)) = 0
+piece_vertices (Err fault) = 0
 
 abbrev pub all_vertices : List (Result Input InputFault) → ℕ
 all_vertices [] = 0
-all_vertices (r ∷ rs) = vertices r + all_vertices rs
+all_vertices (r ∷ rs) = piece_vertices r + all_vertices rs

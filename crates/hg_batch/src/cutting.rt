@@ -1,7 +1,7 @@
 // The pieces of an input, each read as an edge list.
 ghost use Rattle.std.specs.Prelude.{◌≡◌, ◌==◌, ◌<◌, ◌≤◌, [], ◌∷◌, ◌++◌, IfOk, IfSome, OnOk, length, position, slice_index};
 ghost use Rattle.std.specs.Thread.{IsSync};
-ghost use Rattle.hg_batch.specs.Pieces.{all_vertices, pieces, reading, readings, vertices};
+ghost use Rattle.hg_batch.specs.Pieces.{all_vertices, pieces, piece_reading, readings, piece_vertices};
 ghost use Rattle.hg_batch.specs.Cutting.{reads, values};
 
 use graph_reader::read_graph;
@@ -126,7 +126,7 @@ fn first_cut(bytes: &[u8]) -> Option<usize>
 #[tactic(auto, using(crate::proofs::PieceLemmas::values_push))]
 fn push_piece(alloc: Global, read: &mut Vec<Piece>, bytes: &[u8]) -> Result<(), OutOfMemory>
     requires { length bytes.now ≤ 134217728 }
-    ensures { OnOk result (values read.new.items ≡ values read.old.items ++ (reading bytes.now ∷ [])) }
+    ensures { OnOk result (values read.new.items ≡ values read.old.items ++ (piece_reading bytes.now ∷ [])) }
 {
     let piece = read_piece(alloc, bytes)?;
     read.push(piece).map_err(|_| OutOfMemory)?;
@@ -136,7 +136,7 @@ fn push_piece(alloc: Global, read: &mut Vec<Piece>, bytes: &[u8]) -> Result<(), 
 // Reads one piece.
 fn read_piece(alloc: Global, bytes: &[u8]) -> Result<Piece, OutOfMemory>
     requires { length bytes.now ≤ 134217728 }
-    ensures { IfOk result (λ piece. reads piece ≡ reading bytes.now) }
+    ensures { IfOk result (λ piece. reads piece ≡ piece_reading bytes.now) }
 {
     match read_graph(alloc, bytes) {
         Ok(graph) => Ok(Piece::Read(Input::Edges(graph))),
@@ -159,7 +159,7 @@ pub(crate) fn vertex_count(pieces: &[Piece]) -> u64
 
 // How many vertices a piece has that is an edge list.
 fn vertices_of(piece: &Piece) -> u64
-    ensures count { result ≡ vertices (reads piece.now) }
+    ensures count { result ≡ piece_vertices (reads piece.now) }
     ensures few { result ≤ 1048576 }
 {
     match piece {

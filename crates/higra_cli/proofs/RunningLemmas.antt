@@ -11,13 +11,13 @@ use Rattle.higra_words.specs.declared.request.Request.{Request}
 use Rattle.higra_input.proofs.GettingLemmas.{TookBy-got, TookBy-stopped, got_short, input_for-got, risen, took_long}
 use Rattle.higra_input.proofs.ReadingLemmas.{gave_nothing}
 use Rattle.higra_input.specs.Getting.{AreBytesOf, GotInput, StoodStill, StopsGetting, TookBy}
-use Rattle.higra_input.specs.Inputs.{graph_of, input_for, too_long}
+use Rattle.higra_input.specs.Inputs.{input_graph, input_for, too_long}
 use Rattle.higra_input.specs.Reading.{GaveTooMuch, Told}
 use Rattle.higra_input.specs.declared.fault.ReadFault.{ReadFault}
 use Rattle.higra_input.specs.declared.fault.ReadFault.TheVariants as reads
 use Rattle.higra_input.specs.declared.input.Input.{Input}
 use Rattle.higra_report.proofs.RefusalLemmas.{refusal-other}
-use Rattle.higra_report.specs.Reports.{IsReportIn, component_side, receipt_of, refusal, report_of}
+use Rattle.higra_report.specs.Reports.{IsReportIn, component_side, request_receipt, refusal, report_of}
 use Rattle.higra_report.specs.Theorems.{HasComponents, IsHierarchy}
 use Rattle.higra_report.specs.declared.fault.ReportFault.{ReportFault}
 use Rattle.higra_report.specs.declared.fault.ReportFault.TheVariants as refusals
@@ -44,7 +44,7 @@ AppendsPrefix-either (Ok x) old new bytes line same all part = subst (λ (bs : L
 AppendsPrefix-either (Err e) old new bytes line same all part = subst (λ (bs : List ℕ). AppendsPrefix old new bs) same part
 
 -- so its status is that of the input
-IsFor-got : (request : Request) (old new : Option (List ℕ)) (input : Input) → GotInput request.made old new input → IsFor request old (status_by (receipt_of request input) (refusal request input))
+IsFor-got : (request : Request) (old new : Option (List ℕ)) (input : Input) → GotInput request.made old new input → IsFor request old (status_by (request_receipt request input) (refusal request input))
 unfolding answer_of
 IsFor-got request old new input got bytes are = ap (status_for request) (input_for-got request.made old new input got bytes are)
 
@@ -82,9 +82,9 @@ write_not_usage (writes.Report refusals.OutOfMemory) = λ is. cc
 write_not_usage writes.WriteFailed = λ is. cc
 
 -- the input is accepted
-HasStatus-success : (words : List (List ℕ)) (request : Request) (input : Input) (old new : Option (List ℕ)) → requested words ≡ Some request → GotInput request.made old new input → refusal request input ≡ None → HasStatus words old (statuses.Success (receipt_of request input))
+HasStatus-success : (words : List (List ℕ)) (request : Request) (input : Input) (old new : Option (List ℕ)) → requested words ≡ Some request → GotInput request.made old new input → refusal request input ≡ None → HasStatus words old (statuses.Success (request_receipt request input))
 HasStatus-success words request input old new asked got accepted =
-    (request, (asked, subst (λ (o : Option InputFault). IsFor request old (status_by (receipt_of request input) o)) accepted (IsFor-got request old new input got)))
+    (request, (asked, subst (λ (o : Option InputFault). IsFor request old (status_by (request_receipt request input) o)) accepted (IsFor-got request old new input got)))
 
 -- and something was done with its report
 Reports-done : (words : List (List ℕ)) (request : Request) (input : Input) (old new : Option (List ℕ)) (Done : List ℕ → Type 0) → requested words ≡ Some request → GotInput request.made old new input → Writes request input Done → Reports words old new Done
@@ -100,7 +100,7 @@ Reports-done words request input old new Done asked got writes = record {
 }
 
 -- something was done with the bytes of a report
-pub reports_written : (request : Request) (input : Input) (Done : List ℕ → Type 0) (bytes : List ℕ) → refusal request input ≡ None → bytes ≡ report_of request input → Done bytes → IsHierarchy (graph_of input)
+pub reports_written : (request : Request) (input : Input) (Done : List ℕ → Type 0) (bytes : List ℕ) → refusal request input ≡ None → bytes ≡ report_of request input → Done bytes → IsHierarchy (input_graph input)
     → HasComponents (component_side request.report) input → Writes request input Done
 reports_written request input Done bytes accepted are done hierarchy components = record { accepted = accepted; done = subst Done are done; hierarchy = hierarchy; components = components }
 
@@ -125,9 +125,9 @@ Ends-written words request input old new out out' receipt asked quiet got ends =
 Ends-failed : (words : List (List ℕ)) (request : Request) (input : Input) (old new out out' : Told) (fault : WriteFault) → requested words ≡ Some request → new.faults ≡ old.faults → GotInput request.made old.bytes new.bytes input
     → EndsWriting request input out out' (Err fault) → Ends words old new out out' (status_of_write fault)
 Ends-failed words request input old new out out' writes.WriteFailed asked quiet got ends =
-    ((receipt_of request input, HasStatus-success words request input old.bytes new.bytes asked got ends.0.accepted), Reports-done words request input old.bytes new.bytes (AppendsPrefix out.bytes out'.bytes) asked got ends.0, quiet, ends.1)
+    ((request_receipt request input, HasStatus-success words request input old.bytes new.bytes asked got ends.0.accepted), Reports-done words request input old.bytes new.bytes (AppendsPrefix out.bytes out'.bytes) asked got ends.0, quiet, ends.1)
 Ends-failed words request input old new out out' (writes.Report (refusals.Input fault)) asked quiet got ends =
-    ((request, (asked, subst (λ (o : Option InputFault). IsFor request old.bytes (status_by (receipt_of request input) o)) ends.0 (IsFor-got request old.bytes new.bytes input got))), (request, (asked, TookBy-got request.made old.bytes new.bytes input fault got (refusal-other request input fault ends.0))), quiet, ends.1)
+    ((request, (asked, subst (λ (o : Option InputFault). IsFor request old.bytes (status_by (request_receipt request input) o)) ends.0 (IsFor-got request old.bytes new.bytes input got))), (request, (asked, TookBy-got request.made old.bytes new.bytes input fault got (refusal-other request input fault ends.0))), quiet, ends.1)
 Ends-failed words request input old new out out' (writes.Report refusals.OutOfMemory) asked quiet got ends = ends
 
 pub Ends-unwritten : (words : List (List ℕ)) (request : Request) (input : Input) (old new out out' : Told) (fault : WriteFault) (status : Status) → status ≡ status_of_write fault → requested words ≡ Some request → new.faults ≡ old.faults → GotInput request.made old.bytes new.bytes input

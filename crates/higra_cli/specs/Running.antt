@@ -7,10 +7,10 @@ use Rattle.merge_board.specs.Seats.{ReceiptState}
 use Rattle.higra_words.specs.Command.{requested}
 use Rattle.higra_words.specs.declared.request.Request.{Request}
 use Rattle.higra_input.specs.Getting.{AreBytesOf, GotInput, TookBy}
-use Rattle.higra_input.specs.Inputs.{graph_of, input_for}
+use Rattle.higra_input.specs.Inputs.{input_graph, input_for}
 use Rattle.higra_input.specs.Reading.{Told}
 use Rattle.higra_input.specs.declared.input.Input.{Input}
-use Rattle.higra_report.specs.Reports.{component_side, receipt_of, refusal, report_of}
+use Rattle.higra_report.specs.Reports.{component_side, request_receipt, refusal, report_of}
 use Rattle.higra_report.specs.Theorems.{HasComponents, IsHierarchy}
 use Rattle.higra_report.specs.declared.fault.ReportFault.TheVariants as refusals
 use Rattle.higra_cli.specs.declared.fault.WriteFault.{WriteFault}
@@ -33,7 +33,7 @@ status_by receipt (Some fault) = statuses.Input fault
 
 -- the status for what was read
 abbrev pub status_for : Request → Result Input InputFault → Status
-status_for request (Ok input) = status_by (receipt_of request input) (refusal request input)
+status_for request (Ok input) = status_by (request_receipt request input) (refusal request input)
 status_for request (Err fault) = statuses.Input fault
 
 -- the status of a request whose source has these bytes, where nothing fails
@@ -57,23 +57,23 @@ pub record Reports (words : List (List ℕ)) (old new : Option (List ℕ)) (Done
   pub got : GotInput request.made old new input
   pub accepted : refusal request input ≡ None
   pub done : Done (report_of request input)
-  pub hierarchy : IsHierarchy (graph_of input)
+  pub hierarchy : IsHierarchy (input_graph input)
   pub components : HasComponents (component_side request.report) input
 
 -- this was done with exactly the report that was asked for, and the receipt is the one of its request and its input
 abbrev pub ReportsWith : List (List ℕ) → Option (List ℕ) → Option (List ℕ) → (List ℕ → Type 0) → ReceiptState → Type 0
-ReportsWith words old new Done receipt = (reports : Reports words old new Done) × (receipt ≡ receipt_of reports.request reports.input)
+ReportsWith words old new Done receipt = (reports : Reports words old new Done) × (receipt ≡ request_receipt reports.request reports.input)
 
 -- The input is accepted, and this was done with exactly the report that was asked for.
 pub record Writes (request : Request) (input : Input) (Done : List ℕ → Type 0) : Type 0 where
   pub accepted : refusal request input ≡ None
   pub done : Done (report_of request input)
-  pub hierarchy : IsHierarchy (graph_of input)
+  pub hierarchy : IsHierarchy (input_graph input)
   pub components : HasComponents (component_side request.report) input
 
 -- how the making and the writing of a report left the sink
 abbrev pub EndsWriting : Request → Input → Told → Told → Result ReceiptState WriteFault → Type 0
-EndsWriting request input out out' (Ok receipt) = Writes request input (Appends out.bytes out'.bytes) × (receipt ≡ receipt_of request input) × (out'.faults ≡ out.faults)
+EndsWriting request input out out' (Ok receipt) = Writes request input (Appends out.bytes out'.bytes) × (receipt ≡ request_receipt request input) × (out'.faults ≡ out.faults)
 EndsWriting request input out out' (Err (writes.Report (refusals.Input fault))) = (refusal request input ≡ Some fault) × (out'.faults ≡ out.faults)
 EndsWriting request input out out' (Err (writes.Report refusals.OutOfMemory)) = out'.faults ≡ out.faults
 EndsWriting request input out out' (Err writes.WriteFailed) = Writes request input (AppendsPrefix out.bytes out'.bytes) × Rose out.faults out'.faults

@@ -9,7 +9,7 @@ use Rattle.input_tokens.specs.declared.token.Token.{Token}
 use Rattle.input_tokens.specs.declared.token.Token.TheVariants.{Graph, GraphWithAreas, Number, Other}
 use Rattle.input_tokens.specs.Tokens.{PlacedToken, tokens}
 use Rattle.input_tokens.specs.Rules.{◌>>=◌, within_limit, fault, number_read}
-use Rattle.graph_reader.specs.EdgeList.{area, areas, edge, edge_list, edges, first_end_read, first_word, graph, need, next, second_end_read, several, vertices, weight_read, whole}
+use Rattle.graph_reader.specs.EdgeList.{area, areas, edge, edge_list, edges, first_end_read, first_word, graph, need, next_token, second_end_read, several, vertices, weight_read, whole}
 
 -- what was read isn't an input that is too long
 abbrev pub IsShort : {A : Type 0} → Result A InputFault → Type 0
@@ -74,7 +74,7 @@ unfolding weight_read
 rule-weight at token = short-then (number_read at token) (λ w. within_limit 4294967295 at w) (rule-number at token) (short-most 4294967295 at)
 
 -- so are those of the next token
-short-next : {A : Type 0} (missing : Result (A × List PlacedToken) InputFault) (rule : ℕ → Token → Result A InputFault) (ts : List PlacedToken) → IsShort missing → IsRule rule → IsShort (next missing rule ts)
+short-next : {A : Type 0} (missing : Result (A × List PlacedToken) InputFault) (rule : ℕ → Token → Result A InputFault) (ts : List PlacedToken) → IsShort missing → IsRule rule → IsShort (next_token missing rule ts)
 short-next missing rule [] none each = none
 short-next {A} missing rule (t ∷ ts) none each =
     let after : A → Result (A × List PlacedToken) InputFault = λ x. Ok (x, ts) in
@@ -115,7 +115,7 @@ short-graph end ts =
     let listed : ℕ → ℕ → List ℕ × List PlacedToken → Result WeightedGraph InputFault = λ n m a. several m (edge n end) a.1 >>= last n a.0 in
     let header : Bool → ℕ → ℕ × List PlacedToken → Result WeightedGraph InputFault = λ b n m. areas b n end m.1 >>= listed n m.0 in
     let counted : Bool → ℕ × List PlacedToken → Result WeightedGraph InputFault = λ b n. need end edges n.1 >>= header b n.0 in
-    short-then (next (fault UnknownForm end 0) first_word ts) (λ w. need end vertices w.1 >>= counted w.0) (short-next (fault UnknownForm end 0) first_word ts (λ e. cc) rule-first_word)
+    short-then (next_token (fault UnknownForm end 0) first_word ts) (λ w. need end vertices w.1 >>= counted w.0) (short-next (fault UnknownForm end 0) first_word ts (λ e. cc) rule-first_word)
     (λ w. short-then (need end vertices w.1) (counted w.0) (short-need end vertices w.1 rule-vertices)
     (λ n. short-then (need end edges n.1) (header w.0 n.0) (short-need end edges n.1 rule-edges)
     (λ m. short-then (areas w.0 n.0 end m.1) (listed n.0 m.0) (short-areas w.0 n.0 end m.1)

@@ -13,9 +13,9 @@ use Rattle.higra_input.specs.declared.input.Input.{Input}
 use Rattle.higra_input.specs.declared.input.Input.TheVariants.{Edges, Picture}
 
 -- the graph of an input: its edge list's, or its picture's
-abbrev pub graph_of : Input → WeightedGraph
-graph_of (Edges graph) = graph
-graph_of (Picture raster) = grid.graph_of raster
+abbrev pub input_graph : Input → WeightedGraph
+input_graph (Edges graph) = graph
+input_graph (Picture raster) = grid.graph_of raster
 
 -- what was read as an edge list, as an input
 abbrev pub edges_as_input : Result WeightedGraph InputFault → Result Input InputFault

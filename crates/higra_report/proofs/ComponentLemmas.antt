@@ -10,8 +10,8 @@ use Rattle.hg_base.specs.declared.fault.InputFault.{InputFault}
 use Rattle.hg_base.specs.declared.fault.FaultKind.TheVariants.{NotAPicture}
 use Rattle.pgm_reader.specs.Raster.{Raster}
 use Rattle.tile_plan.specs.Plan.{tile_count}
-use Rattle.higra_input.specs.Inputs.{graph_of}
-use Rattle.higra_report.specs.Reports.{component_side, picture_components, picture_fault, plan_of, refusal_in, report_in, text_by, text_of, tile_fault}
+use Rattle.higra_input.specs.Inputs.{input_graph}
+use Rattle.higra_report.specs.Reports.{component_side, picture_components, picture_fault, input_plan, refusal_in, report_in, text_by, text_of, tile_fault}
 use Rattle.higra_report.specs.Theorems.{HasComponents, HasComponentsOf}
 use Rattle.higra_report.proofs.PlanningLemmas.{before_none, before_some}
 use Rattle.higra_input.specs.declared.input.Input.{Input}
@@ -33,14 +33,14 @@ no-picture report (Edges graph) none = ap (λ (s : Option Side). if is_some s th
 no-picture report (Picture raster) none = refl
 
 -- so it is refused by the number of tiles alone
-pub graph_accepted : (tile : ℕ) (report : Report) (input : Input) → component_side report ≡ None → tile_fault (tile_count (plan_of tile input)) ≡ None → refusal_in Text tile report input ≡ None
+pub graph_accepted : (tile : ℕ) (report : Report) (input : Input) → component_side report ≡ None → tile_fault (tile_count (input_plan tile input)) ≡ None → refusal_in Text tile report input ≡ None
 graph_accepted tile report input none few = before_none _ _ None (no-picture report input none) (before_none _ _ None few refl)
 
-pub graph_refused : (tile : ℕ) (report : Report) (input : Input) (fault : InputFault) → component_side report ≡ None → tile_fault (tile_count (plan_of tile input)) ≡ Some fault → refusal_in Text tile report input ≡ Some fault
+pub graph_refused : (tile : ℕ) (report : Report) (input : Input) (fault : InputFault) → component_side report ≡ None → tile_fault (tile_count (input_plan tile input)) ≡ Some fault → refusal_in Text tile report input ≡ Some fault
 graph_refused tile report input fault none many = before_none _ _ (Some fault) (no-picture report input none) (before_some _ _ fault many)
 
 -- its text is the one about the graph
-pub graph_text : (report : Report) (input : Input) (bytes : List ℕ) → component_side report ≡ None → bytes ≡ text_of report (graph_of input) → bytes ≡ report_in Text report input
+pub graph_text : (report : Report) (input : Input) (bytes : List ℕ) → component_side report ≡ None → bytes ≡ text_of report (input_graph input) → bytes ≡ report_in Text report input
 graph_text report input bytes none made = made ∙ ap (λ (s : Option Side). text_by s report input) (sym none)
 
 -- a component tree of an edge list is refused
@@ -49,10 +49,10 @@ edges_refused tile report side g some =
     before_some _ _ _ (ap (λ (s : Option Side). if is_some s then Some (record { kind = NotAPicture; at = 0; value = 0 }) else None) some)
 
 -- that of a picture by the number of tiles alone
-pub picture_accepted : (tile : ℕ) (report : Report) (r : Raster) → tile_fault (tile_count (plan_of tile (Picture r))) ≡ None → refusal_in Text tile report (Picture r) ≡ None
+pub picture_accepted : (tile : ℕ) (report : Report) (r : Raster) → tile_fault (tile_count (input_plan tile (Picture r))) ≡ None → refusal_in Text tile report (Picture r) ≡ None
 picture_accepted tile report r few = before_none _ _ None few refl
 
-pub picture_refused : (tile : ℕ) (report : Report) (r : Raster) (fault : InputFault) → tile_fault (tile_count (plan_of tile (Picture r))) ≡ Some fault → refusal_in Text tile report (Picture r) ≡ Some fault
+pub picture_refused : (tile : ℕ) (report : Report) (r : Raster) (fault : InputFault) → tile_fault (tile_count (input_plan tile (Picture r))) ≡ Some fault → refusal_in Text tile report (Picture r) ≡ Some fault
 picture_refused tile report r fault many = before_some _ _ fault many
 
 -- and its text is the one of the component tree
@@ -60,10 +60,10 @@ pub components_text_is : (report : Report) (side : Side) (r : Raster) (bytes : L
 components_text_is report side r bytes some made = made ∙ ap (λ (s : Option Side). text_by s report (Picture r)) (sym some)
 
 -- a graph that was weighed has the picture's pixels as vertices
-pub weighed_pixels : (r : Raster) (side : Side) (values : List ℕ) (g w : WeightedGraph) → g ≡ graph_of (Picture r) → w ≡ weighed_graph side values g → r.width * r.height ≡ w.n
+pub weighed_pixels : (r : Raster) (side : Side) (values : List ℕ) (g w : WeightedGraph) → g ≡ input_graph (Picture r) → w ≡ weighed_graph side values g → r.width * r.height ≡ w.n
 weighed_pixels r side values g w same weighed = ap (λ (h : WeightedGraph). h.n) (sym same) ∙ ap (λ (h : WeightedGraph). h.n) (sym weighed)
 
 -- and as many edges
-pub weighed_edges : (r : Raster) (side : Side) (values : List ℕ) (g w : WeightedGraph) → g ≡ graph_of (Picture r) → w ≡ weighed_graph side values g → length w.edges ≡ length (graph_of (Picture r)).edges
+pub weighed_edges : (r : Raster) (side : Side) (values : List ℕ) (g w : WeightedGraph) → g ≡ input_graph (Picture r) → w ≡ weighed_graph side values g → length w.edges ≡ length (input_graph (Picture r)).edges
 weighed_edges r side values g w same weighed =
     ap (λ (h : WeightedGraph). length h.edges) weighed ∙ length-map g.edges (weighed_edge side values) ∙ ap (λ (h : WeightedGraph). length h.edges) same

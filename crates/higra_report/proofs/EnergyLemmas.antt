@@ -8,7 +8,7 @@ use Rattle.std.proofs.lemmas.List.Elements.{All-map}
 use Rattle.std.proofs.lemmas.List.FromFn.{length-map-range_with_len, length-range_with_len}
 use Rattle.std.proofs.lemmas.List.Sums.{count_by-le-length, length-filter, sum_by-le}
 use Rattle.std.proofs.lemmas.Option.{get_or_from_slice_get, slice_get_within, unwrap_or-slice_get}
-use Rattle.attributes.specs.Attributes.{AttributeLists, area, area_of, attributes_of, vertices}
+use Rattle.attributes.specs.Attributes.{AttributeLists, area, area_of, attributes_of, vertices_below}
 use Rattle.attributes.proofs.LowFloors.{altitudes-small}
 use Rattle.energy_cut.specs.Energies.{energies_of, node_energy}
 use Rattle.energy_cut.specs.Regions.{RegionCut, energy_cut_of}
@@ -29,7 +29,7 @@ altitudes_low g t is small i h =
 pub areas_each : (g : WeightedGraph) (t : ParentTree) (lists : AttributeLists) → IsTreeOf g t → lists ≡ attributes_of g → length lists.areas ≡ nodes t
 areas_each g t lists is same =
     ap (λ (l : AttributeLists). length l.areas) same
-    ∙ length-map-range_with_len (λ i. area_of g (vertices (graph_tree g) i)) 0 (nodes (graph_tree g))
+    ∙ length-map-range_with_len (λ i. area_of g (vertices_below (graph_tree g) i)) 0 (nodes (graph_tree g))
     ∙ ap nodes (sym is.same)
 
 -- the areas up to the next node
@@ -50,10 +50,10 @@ area-small g is x =
     ]
 
 -- so that of some of the vertices is at most 2 ^ 32
-area_of-small : (g : WeightedGraph) → IsGraph g → (i : ℕ) → area_of g (vertices (graph_tree g) i) ≤ 2 ^ 32
+area_of-small : (g : WeightedGraph) → IsGraph g → (i : ℕ) → area_of g (vertices_below (graph_tree g) i) ≤ 2 ^ 32
 area_of-small g is i =
-    let bound : area_of g (vertices (graph_tree g) i) ≤ length (vertices (graph_tree g) i) * 4096 = sum_by-le (area g) 4096 (vertices (graph_tree g) i) (λ k d h. area-small g is _) in
-    let some : length (vertices (graph_tree g) i) ≡ count_by (is_above (graph_tree g) i) (range_with_len 0 g.n) = length-filter (is_above (graph_tree g) i) (range_with_len 0 g.n) in
+    let bound : area_of g (vertices_below (graph_tree g) i) ≤ length (vertices_below (graph_tree g) i) * 4096 = sum_by-le (area g) 4096 (vertices_below (graph_tree g) i) (λ k d h. area-small g is _) in
+    let some : length (vertices_below (graph_tree g) i) ≡ count_by (is_above (graph_tree g) i) (range_with_len 0 g.n) = length-filter (is_above (graph_tree g) i) (range_with_len 0 g.n) in
     let part : count_by (is_above (graph_tree g) i) (range_with_len 0 g.n) ≤ length (range_with_len 0 g.n) = count_by-le-length (is_above (graph_tree g) i) (range_with_len 0 g.n) in
     let all : length (range_with_len 0 g.n) ≡ g.n = length-range_with_len 0 g.n in
     let few : g.n ≤ 1048576 = is.vertices in
@@ -63,7 +63,7 @@ area_of-small g is i =
 pub areas_small : (g : WeightedGraph) (t : ParentTree) (lists : AttributeLists) (areas : List ℕ) → IsTreeOf g t → lists ≡ attributes_of g → areas ≡ lists.areas → All (λ (a : ℕ). a ≤ 2 ^ 32) areas
 areas_small g t lists areas is own same =
     subst (All (λ (a : ℕ). a ≤ 2 ^ 32)) (sym (same ∙ ap (λ (l : AttributeLists). l.areas) own))
-    (All-map (λ (a : ℕ). a ≤ 2 ^ 32) (λ i. area_of g (vertices (graph_tree g) i)) (range_with_len 0 (nodes (graph_tree g))) (λ k d h. area_of-small g is.graph _))
+    (All-map (λ (a : ℕ). a ≤ 2 ^ 32) (λ i. area_of g (vertices_below (graph_tree g) i)) (range_with_len 0 (nodes (graph_tree g))) (λ k d h. area_of-small g is.graph _))
 
 -- energies of the tree of a graph
 pub energies_made : (g : WeightedGraph) (t : ParentTree) (lists : AttributeLists) (areas : List ℕ) (penalty : ℕ) (energies : List ℕ) → IsTreeOf g t → lists ≡ attributes_of g → areas ≡ lists.areas → energies ≡ energies_of t areas penalty

@@ -13,9 +13,9 @@ use Rattle.hg_base.specs.declared.fault.InputFault.{InputFault}
 use Rattle.hg_base.specs.declared.fault.FaultKind.TheVariants.{TooManyTiles}
 use Rattle.merge_board.specs.Seats.{ReceiptState}
 use Rattle.pgm_reader.specs.Raster.{Raster}
-use Rattle.higra_input.specs.Inputs.{graph_of}
+use Rattle.higra_input.specs.Inputs.{input_graph}
 use Rattle.higra_report.specs.Planning.{IsMadeIn, IsPlanned, report_fault}
-use Rattle.higra_report.specs.Reports.{◌before◌, receipt_of, tile_fault, tiles_of}
+use Rattle.higra_report.specs.Reports.{◌before◌, request_receipt, tile_fault, request_tiles}
 use Rattle.higra_input.specs.declared.input.Input.TheVariants.{Picture}
 use Rattle.higra_words.specs.declared.request.Request.{Request}
 use Rattle.higra_report.specs.declared.fault.ReportFault.{ReportFault}
@@ -44,9 +44,9 @@ plan_refused g tiling workers (hierarchies.TooManyTiles count) fault answer is =
 plan_refused g tiling workers hierarchies.OutOfMemory fault answer is = subst (λ (f : ReportFault). IsPlanned g tiling workers (Err f)) (sym is) tt
 
 -- the receipt of a graph with as many edges as a picture's is that of the request
-pub receipt_squares : (request : Request) (r : Raster) (g : WeightedGraph) (receipt : ReceiptState) → receipt ≡ receipt_in g (Squares r.width r.height request.tile) request.workers → length g.edges ≡ length (graph_of (Picture r)).edges
-    → receipt ≡ receipt_of request (Picture r)
-receipt_squares request r g receipt is same = is ∙ ap (λ (m : ℕ). record { tiles = tiles_of request (Picture r); workers = request.workers; edges = m }) same
+pub receipt_squares : (request : Request) (r : Raster) (g : WeightedGraph) (receipt : ReceiptState) → receipt ≡ receipt_in g (Squares r.width r.height request.tile) request.workers → length g.edges ≡ length (input_graph (Picture r)).edges
+    → receipt ≡ request_receipt request (Picture r)
+receipt_squares request r g receipt is same = is ∙ ap (λ (m : ℕ). record { tiles = request_tiles request (Picture r); workers = request.workers; edges = m }) same
 
 -- where the first fault isn't there, the second is the one
 pub before_none : (a b c : Option InputFault) → a ≡ None → b ≡ c → (a before b) ≡ c
@@ -57,9 +57,9 @@ pub before_some : (a b : Option InputFault) (fault : InputFault) → a ≡ Some 
 before_some a b fault some = ap (λ (o : Option InputFault). o before b) some
 
 -- the graph of a picture has its pixels as vertices
-pub pixels_in : (r : Raster) (g : WeightedGraph) → g ≡ graph_of (Picture r) → r.width * r.height ≡ g.n
+pub pixels_in : (r : Raster) (g : WeightedGraph) → g ≡ input_graph (Picture r) → r.width * r.height ≡ g.n
 pixels_in r g same = ap (λ (h : WeightedGraph). h.n) (sym same)
 
 -- and as many edges
-pub edges_in : (r : Raster) (g : WeightedGraph) → g ≡ graph_of (Picture r) → length g.edges ≡ length (graph_of (Picture r)).edges
+pub edges_in : (r : Raster) (g : WeightedGraph) → g ≡ input_graph (Picture r) → length g.edges ≡ length (input_graph (Picture r)).edges
 edges_in r g same = ap (λ (h : WeightedGraph). length h.edges) same

@@ -8,12 +8,12 @@ use Rattle.higra_words.specs.declared.request.Form.{Form}
 use Rattle.higra_words.specs.declared.request.Form.TheVariants as forms
 use Rattle.higra_words.specs.declared.request.Report.{Report}
 use Rattle.higra_words.specs.declared.request.Request.{Request}
-use Rattle.higra_input.specs.Inputs.{graph_of}
+use Rattle.higra_input.specs.Inputs.{input_graph}
 use Rattle.higra_input.specs.declared.input.Input.{Input}
 use Rattle.higra_input.specs.declared.input.Input.TheVariants.{Edges, Picture}
 use Rattle.higra_report.specs.declared.fault.ReportFault.{ReportFault}
 use Rattle.higra_report.specs.declared.fault.ReportFault.TheVariants as faults
-use Rattle.higra_report.specs.Reports.{IsReportIn, drawing_fault, label_fault, labels_fault, labels_of, needs_picture, picture_fault, refusal, tile_fault, tiles_of, ◌before◌}
+use Rattle.higra_report.specs.Reports.{IsReportIn, drawing_fault, label_fault, labels_fault, labels_of, needs_picture, picture_fault, refusal, tile_fault, request_tiles, ◌before◌}
 
 -- it isn't that
 abbrev pub IsOther : Option InputFault → Type 0
@@ -46,14 +46,14 @@ other-labels (Some labels) = other-label labels.count
 
 other-drawing : (form : Form) (report : Report) (input : Input) → IsOther (drawing_fault form report input)
 other-drawing forms.Text report input = tt
-other-drawing forms.Pgm report input = other-labels (labels_of report (graph_of input))
+other-drawing forms.Pgm report input = other-labels (labels_of report (input_graph input))
 
 pub refusal-other : (request : Request) (input : Input) (f : InputFault) → refusal request input ≡ Some f → f.kind ≢ TooLong
 unfolding refusal
 refusal-other request input f is =
     subst IsOther is
-    (other-before (picture_fault request.form request.report input) (tile_fault (tiles_of request input) before drawing_fault request.form request.report input) (other-picture request.form request.report input)
-    (other-before (tile_fault (tiles_of request input)) (drawing_fault request.form request.report input) (other-tiles (tiles_of request input)) (other-drawing request.form request.report input)))
+    (other-before (picture_fault request.form request.report input) (tile_fault (request_tiles request input) before drawing_fault request.form request.report input) (other-picture request.form request.report input)
+    (other-before (tile_fault (request_tiles request input)) (drawing_fault request.form request.report input) (other-tiles (request_tiles request input)) (other-drawing request.form request.report input)))
 
 -- what was answered in place of a report is why there is none
 pub refused_for : {T : Type 0} (request : Request) (input : Input) (fault : ReportFault) (f : InputFault) (answer : Result T ReportFault) → IsReportIn request.form request.tile request.report input (Err fault) → answer ≡ Err fault → answer ≡ Err (faults.Input f)

@@ -14,6 +14,6 @@ IsDrawn labels raster (Err (faults.Input fault)) = label_fault labels.count ≡ 
 IsDrawn labels raster (Err faults.OutOfMemory) = Unit {0}
 
 -- the same of labels that are there
-abbrev pub AreDrawn : Option Labelling → Raster → Result (List ℕ) ReportFault → Type 0
-AreDrawn None raster drawn = ⊥
-AreDrawn (Some labels) raster drawn = IsDrawn labels raster drawn
+abbrev pub AreLabelsDrawn : Option Labelling → Raster → Result (List ℕ) ReportFault → Type 0
+AreLabelsDrawn None raster drawn = ⊥
+AreLabelsDrawn (Some labels) raster drawn = IsDrawn labels raster drawn

@@ -33,7 +33,7 @@ use Rattle.watershed_cut.specs.MinimumLabels.{minima_of}
 use Rattle.watershed_cut.specs.Report.{minima_report, watershed_report}
 use Rattle.watershed_cut.specs.Rooted.{cost}
 use Rattle.watershed_cut.specs.Watershed.{watershed_of}
-use Rattle.higra_input.specs.Inputs.{graph_of}
+use Rattle.higra_input.specs.Inputs.{input_graph}
 use Rattle.higra_report.specs.Summary.{summary_of, summary_report}
 use Rattle.higra_words.specs.declared.request.Form.{Form}
 use Rattle.higra_words.specs.declared.request.Form.TheVariants as forms
@@ -109,7 +109,7 @@ text_of (reports.Energy penalty) g = energy_report (graph_energy_cut g penalty) 
 
 -- the component tree of a picture's samples
 abbrev pub picture_components : Side → Raster → ComponentLists
-picture_components side raster = component_tree_of side raster.samples (graph_of (Picture raster))
+picture_components side raster = component_tree_of side raster.samples (input_graph (Picture raster))
 
 -- the text of the component tree of a picture
 abbrev pub components_text : Side → Input → List ℕ
@@ -118,7 +118,7 @@ components_text side (Picture raster) = components_report side (picture_componen
 
 -- the text of a report about an input: of the component tree of this side, or else of the report about its graph
 abbrev pub text_by : Option Side → Report → Input → List ℕ
-text_by None report input = text_of report (graph_of input)
+text_by None report input = text_of report (input_graph input)
 text_by (Some side) report input = components_text side input
 
 -- the picture of labels over a picture's pixels, where there are some
@@ -129,7 +129,7 @@ labels_over raster (Some labels) = labels_picture labels raster.width raster.hei
 -- the picture of a report about an input: the labels of a picture's pixels
 unfoldable pub picture_of : Report → Input → List ℕ
 picture_of report (Edges graph) = []
-picture_of report (Picture raster) = labels_over raster (labels_of report (graph_of (Picture raster)))
+picture_of report (Picture raster) = labels_over raster (labels_of report (input_graph (Picture raster)))
 
 -- a report of this form
 abbrev pub report_in : Form → Report → Input → List ℕ
@@ -141,18 +141,18 @@ unfoldable pub report_of : Request → Input → List ℕ
 report_of request input = report_in request.form request.report input
 
 -- the plan of an input in tiles of this size: blocks of an edge list's vertices, or squares of a picture's pixels
-abbrev pub plan_of : ℕ → Input → TilePlan
-plan_of tile (Edges graph) = blocks graph tile
-plan_of tile (Picture raster) = squares (graph_of (Picture raster)) raster.width raster.height tile
+abbrev pub input_plan : ℕ → Input → TilePlan
+input_plan tile (Edges graph) = blocks graph tile
+input_plan tile (Picture raster) = squares (input_graph (Picture raster)) raster.width raster.height tile
 
 -- how many tiles the plan of a request's input has
-abbrev pub tiles_of : Request → Input → ℕ
-tiles_of request input = tile_count (plan_of request.tile input)
+abbrev pub request_tiles : Request → Input → ℕ
+request_tiles request input = tile_count (input_plan request.tile input)
 
 -- the receipt of a request's report about an input: how many tiles its plan has, how many workers are asked for, and
 -- how many edges its graph has
-abbrev pub receipt_of : Request → Input → ReceiptState
-receipt_of request input = record { tiles = tiles_of request input; workers = request.workers; edges = length (graph_of input).edges }
+abbrev pub request_receipt : Request → Input → ReceiptState
+request_receipt request input = record { tiles = request_tiles request input; workers = request.workers; edges = length (input_graph input).edges }
 
 -- tiles that are too many for a plan, if they are
 unfoldable pub tile_fault : ℕ → Option InputFault
@@ -180,7 +180,7 @@ labels_fault (Some labels) = label_fault labels.count
 -- a picture is asked for of too many labels
 abbrev pub drawing_fault : Form → Report → Input → Option InputFault
 drawing_fault forms.Text report input = None
-drawing_fault forms.Pgm report input = labels_fault (labels_of report (graph_of input))
+drawing_fault forms.Pgm report input = labels_fault (labels_of report (input_graph input))
 
 -- the first fault, or else the second
 infixr 10 ◌before◌
@@ -191,7 +191,7 @@ None before later = later
 -- why there is no report of this form in tiles of this size, if there is none: it is no picture, or it has too many
 -- tiles, or it has too many labels
 abbrev pub refusal_in : Form → ℕ → Report → Input → Option InputFault
-refusal_in form tile report input = picture_fault form report input before (tile_fault (tile_count (plan_of tile input)) before drawing_fault form report input)
+refusal_in form tile report input = picture_fault form report input before (tile_fault (tile_count (input_plan tile input)) before drawing_fault form report input)
 
 -- why the report can't be made of the input, if it can't
 unfoldable pub refusal : Request → Input → Option InputFault

@@ -13,7 +13,7 @@ use Rattle.edge_laws.specs.Saliency.{IsSaliency}
 use Rattle.edge_laws.specs.Saliencies.{saliency}
 use Rattle.hg_base.specs.declared.kind.Kind.{Kind}
 use Rattle.watershed_cut.specs.Watershed.{IsWatershed, watershed_of}
-use Rattle.higra_input.specs.Inputs.{graph_of}
+use Rattle.higra_input.specs.Inputs.{input_graph}
 use Rattle.higra_input.specs.declared.input.Input.{Input}
 use Rattle.higra_input.specs.declared.input.Input.TheVariants.{Edges, Picture}
 use Rattle.higra_report.specs.Altitudes.{HasAltitudes}
@@ -39,7 +39,7 @@ pub record IsHierarchy (g : WeightedGraph) : Type 0 where
 abbrev pub HasComponentsOf : Side → Input → Type 0
 HasComponentsOf side (Edges graph) = Unit {0}
 HasComponentsOf side (Picture raster) =
-    IsComponentTree side (value_at raster.samples) (graph_of (Picture raster)).n (ranked (graph_of (Picture raster))) (picture_components side raster)
+    IsComponentTree side (value_at raster.samples) (input_graph (Picture raster)).n (ranked (input_graph (Picture raster))) (picture_components side raster)
 
 -- the same of the component tree of a side that is reported, if one is
 abbrev pub HasComponents : Option Side → Input → Type 0

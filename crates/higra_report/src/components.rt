@@ -5,8 +5,8 @@ ghost use Rattle.component_tree.specs.MinTree.{component_tree_of, value_at};
 ghost use Rattle.component_tree.specs.Report.{components_report};
 ghost use Rattle.component_tree.specs.Weighed.{weighed_graph};
 ghost use Rattle.edge_laws.specs.Rank.{ranked};
-ghost use Rattle.higra_input.specs.Inputs.{graph_of};
-ghost use Rattle.higra_report.specs.Reports.{IsReportIn, component_side, receipt_of};
+ghost use Rattle.higra_input.specs.Inputs.{input_graph};
+ghost use Rattle.higra_report.specs.Reports.{IsReportIn, component_side, request_receipt};
 ghost use Rattle.graph_hierarchy.specs.Hierarchies.{IsTreeOf};
 ghost use Rattle.higra_words.specs.Allowed.{CanReport};
 ghost use Rattle.higra_report.specs.Theorems.{HasComponents, IsHierarchy};
@@ -53,8 +53,8 @@ pub(crate) fn components_about<G: Gate>(
     requires request { CanReport request.now }
     requires side { component_side request.now.report ≡ Some side }
     ensures text { IsReportIn Form.Text request.now.tile request.now.report input.now result }
-    ensures receipt { IfOk result (λ made. made.1 ≡ receipt_of request.now input.now) }
-    ensures hierarchy { IfOk result (λ _. IsHierarchy (graph_of input.now)) }
+    ensures receipt { IfOk result (λ made. made.1 ≡ request_receipt request.now input.now) }
+    ensures hierarchy { IfOk result (λ _. IsHierarchy (input_graph input.now)) }
     ensures components { IfOk result (λ _. HasComponents (component_side request.now.report) input.now) }
 {
     match input {
@@ -80,8 +80,8 @@ fn components_of<G: Gate>(
     requires request { CanReport request.now }
     requires side { component_side request.now.report ≡ Some side }
     ensures text { IsReportIn Form.Text request.now.tile request.now.report (Input.Picture picture.now) result }
-    ensures receipt { IfOk result (λ made. made.1 ≡ receipt_of request.now (Input.Picture picture.now)) }
-    ensures hierarchy { IfOk result (λ _. IsHierarchy (graph_of (Input.Picture picture.now))) }
+    ensures receipt { IfOk result (λ made. made.1 ≡ request_receipt request.now (Input.Picture picture.now)) }
+    ensures hierarchy { IfOk result (λ _. IsHierarchy (input_graph (Input.Picture picture.now))) }
     ensures components { IfOk result (λ _. HasComponents (component_side request.now.report) (Input.Picture picture.now)) }
 {
     let values = values_of(alloc, picture)?;

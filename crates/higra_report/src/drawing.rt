@@ -4,10 +4,10 @@ ghost use Rattle.edge_order.specs.Order.{order_of};
 ghost use Rattle.tree_laws.specs.Tree.{graph_tree};
 ghost use Rattle.pgm_reader.specs.Grid as grid;
 ghost use Rattle.watershed_cut.specs.Watershed.{watershed_of};
-ghost use Rattle.higra_report.specs.Drawing.{AreDrawn, IsDrawn};
-ghost use Rattle.higra_input.specs.Inputs.{graph_of};
+ghost use Rattle.higra_report.specs.Drawing.{AreLabelsDrawn, IsDrawn};
+ghost use Rattle.higra_input.specs.Inputs.{input_graph};
 ghost use Rattle.graph_hierarchy.specs.Hierarchies.{IsTreeOf};
-ghost use Rattle.higra_report.specs.Reports.{IsReportIn, component_side, cut_tree, graph_energy_cut, labels_of, receipt_of, regions};
+ghost use Rattle.higra_report.specs.Reports.{IsReportIn, component_side, cut_tree, graph_energy_cut, labels_of, request_receipt, regions};
 ghost use Rattle.higra_words.specs.Request.{can_be_drawn};
 ghost use Rattle.higra_words.specs.Allowed.{CanReport};
 ghost use Rattle.higra_report.specs.Theorems.{HasComponents, IsHierarchy};
@@ -52,8 +52,8 @@ pub(crate) fn picture_about<G: Gate>(
     requires request { CanReport request.now }
     requires drawn { can_be_drawn request.now.report ≡ true }
     ensures picture { IsReportIn Form.Pgm request.now.tile request.now.report input.now result }
-    ensures receipt { IfOk result (λ made. made.1 ≡ receipt_of request.now input.now) }
-    ensures hierarchy { IfOk result (λ _. IsHierarchy (graph_of input.now)) }
+    ensures receipt { IfOk result (λ made. made.1 ≡ request_receipt request.now input.now) }
+    ensures hierarchy { IfOk result (λ _. IsHierarchy (input_graph input.now)) }
     ensures components { IfOk result (λ _. HasComponents (component_side request.now.report) input.now) }
 {
     match input {
@@ -74,8 +74,8 @@ fn drawing<G: Gate>(
     requires request { CanReport request.now }
     requires drawn { can_be_drawn request.now.report ≡ true }
     ensures picture { IsReportIn Form.Pgm request.now.tile request.now.report (Input.Picture picture.now) result }
-    ensures receipt { IfOk result (λ made. made.1 ≡ receipt_of request.now (Input.Picture picture.now)) }
-    ensures hierarchy { IfOk result (λ _. IsHierarchy (graph_of (Input.Picture picture.now))) }
+    ensures receipt { IfOk result (λ made. made.1 ≡ request_receipt request.now (Input.Picture picture.now)) }
+    ensures hierarchy { IfOk result (λ _. IsHierarchy (input_graph (Input.Picture picture.now))) }
     ensures components { IfOk result (λ _. HasComponents (component_side request.now.report) (Input.Picture picture.now)) }
 {
     let graph = graph_of(rt, alloc, picture)?;
@@ -102,7 +102,7 @@ fn draw_report(
     requires graph { graph.now ≡ grid.graph_of picture.now }
     requires order { order.now ≡ order_of graph.now }
     requires tree { IsTreeOf graph.now tree.now }
-    ensures { AreDrawn (labels_of report graph.now) picture.now result }
+    ensures { AreLabelsDrawn (labels_of report graph.now) picture.now result }
 {
     match report {
         Report::Watershed => draw_watershed(alloc, graph, order, tree, picture),

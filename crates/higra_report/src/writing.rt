@@ -3,8 +3,8 @@ ghost use Rattle.std.specs.Prelude.{◌≡◌, Some, None, IfOk};
 ghost use Rattle.edge_order.specs.Order.{order_of};
 ghost use Rattle.graph_hierarchy.specs.Hierarchies.{IsTreeOf};
 ghost use Rattle.hg_base.specs.declared.fault.InputFault.{InputFault};
-ghost use Rattle.higra_input.specs.Inputs.{graph_of};
-ghost use Rattle.higra_report.specs.Reports.{IsReportIn, component_side, receipt_of, refusal, report_of, text_of};
+ghost use Rattle.higra_input.specs.Inputs.{input_graph};
+ghost use Rattle.higra_report.specs.Reports.{IsReportIn, component_side, request_receipt, refusal, report_of, text_of};
 ghost use Rattle.higra_words.specs.Allowed.{CanReport};
 ghost use Rattle.higra_report.specs.Theorems.{HasComponents, IsHierarchy};
 
@@ -42,8 +42,8 @@ pub fn report<G: Gate>(
     ensures accepted { IfOk result (λ _. refusal request.now input.now ≡ None) }
     ensures bytes { IfOk result (λ made. made.0.items ≡ report_of request.now input.now) }
     ensures refused { (fault : InputFault) → result ≡ Err (ReportFault.Input fault) → refusal request.now input.now ≡ Some fault }
-    ensures receipt { IfOk result (λ made. made.1 ≡ receipt_of request.now input.now) }
-    ensures hierarchy { IfOk result (λ _. IsHierarchy (graph_of input.now)) }
+    ensures receipt { IfOk result (λ made. made.1 ≡ request_receipt request.now input.now) }
+    ensures hierarchy { IfOk result (λ _. IsHierarchy (input_graph input.now)) }
     ensures components { IfOk result (λ _. HasComponents (component_side request.now.report) input.now) }
 {
     match report_in_pieces(rt, alloc, request, input, gate) {
@@ -62,8 +62,8 @@ pub fn report_in_pieces<G: Gate>(
 ) -> Result<(Pieces, Receipt), ReportFault>
     requires { CanReport request.now }
     ensures report { IsReportIn request.now.form request.now.tile request.now.report input.now result }
-    ensures receipt { IfOk result (λ made. made.1 ≡ receipt_of request.now input.now) }
-    ensures hierarchy { IfOk result (λ _. IsHierarchy (graph_of input.now)) }
+    ensures receipt { IfOk result (λ made. made.1 ≡ request_receipt request.now input.now) }
+    ensures hierarchy { IfOk result (λ _. IsHierarchy (input_graph input.now)) }
     ensures components { IfOk result (λ _. HasComponents (component_side request.now.report) input.now) }
 {
     match request.form {
@@ -82,8 +82,8 @@ fn text_about<G: Gate>(
 ) -> Result<(Pieces, Receipt), ReportFault>
     requires { CanReport request.now }
     ensures text { IsReportIn Form.Text request.now.tile request.now.report input.now result }
-    ensures receipt { IfOk result (λ made. made.1 ≡ receipt_of request.now input.now) }
-    ensures hierarchy { IfOk result (λ _. IsHierarchy (graph_of input.now)) }
+    ensures receipt { IfOk result (λ made. made.1 ≡ request_receipt request.now input.now) }
+    ensures hierarchy { IfOk result (λ _. IsHierarchy (input_graph input.now)) }
     ensures components { IfOk result (λ _. HasComponents (component_side request.now.report) input.now) }
 {
     match component_side(request.report) {
@@ -104,8 +104,8 @@ fn text_about_graph<G: Gate>(
     requires request { CanReport request.now }
     requires graph { component_side request.now.report ≡ None }
     ensures text { IsReportIn Form.Text request.now.tile request.now.report input.now result }
-    ensures receipt { IfOk result (λ made. made.1 ≡ receipt_of request.now input.now) }
-    ensures hierarchy { IfOk result (λ _. IsHierarchy (graph_of input.now)) }
+    ensures receipt { IfOk result (λ made. made.1 ≡ request_receipt request.now input.now) }
+    ensures hierarchy { IfOk result (λ _. IsHierarchy (input_graph input.now)) }
     ensures components { IfOk result (λ _. HasComponents (component_side request.now.report) input.now) }
 {
     match input {

@@ -7,7 +7,7 @@ use Rattle.std.specs.Str.{all_ascii_digits}
 use Rattle.std.specs.Str.Parse.{digits_value, ParsesUnsigned}
 use Rattle.std.proofs.lemmas.Bool.{and_parts, cases_lt, le-ltb, leb-true, lt-ltb}
 use Rattle.std.proofs.lemmas.Str.Parse.{numerals_by_value, parse_digits, tells_all_ascii_digits}
-use Rattle.higra_words.specs.Request.{is_number, number}
+use Rattle.higra_words.specs.Request.{is_number_word, number}
 
 -- the two words for digits alone say the same
 list_all-is_ascii_digit : (text : List ℕ) → list_all is_ascii_digit text ≡ all_ascii_digits text
@@ -15,7 +15,7 @@ list_all-is_ascii_digit [] = refl
 list_all-is_ascii_digit (c ∷ cs) = ap (λ b. is_ascii_digit c && b) (list_all-is_ascii_digit cs)
 
 -- of one to twenty digits std reads their value, where it is below 2 ^ 64
-pub number_read : {E : Type 0} (text : List ℕ) (r : Result ℕ E) → is_number text ≡ true → ParsesUnsigned 64 10 text r → result_ok r ≡ number text
+pub number_read : {E : Type 0} (text : List ℕ) (r : Result ℕ E) → is_number_word text ≡ true → ParsesUnsigned 64 10 text r → result_ok r ≡ number text
 number_read {E} text r is parsed =
     by_result r (parse_digits (numerals_by_value _ tells_all_ascii_digits) 64 text r parsed (sym (list_all-is_ascii_digit text) ∙ digits.0))
   where

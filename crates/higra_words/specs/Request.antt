@@ -31,12 +31,12 @@ None >>= f = None
 (Some x) >>= f = f x
 
 -- one to twenty digits
-abbrev pub is_number : List ℕ → Bool
-is_number text = list_all is_ascii_digit text && (nat_le 1 (length text) && nat_le (length text) 20)
+abbrev pub is_number_word : List ℕ → Bool
+is_number_word text = list_all is_ascii_digit text && (nat_le 1 (length text) && nat_le (length text) 20)
 
 -- the value of a number, which is below 2 ^ 64
 abbrev pub number : List ℕ → Option ℕ
-number text = if is_number text && nat_lt (digits_value 10 text) (2 ^ 64) then Some (digits_value 10 text) else None
+number text = if is_number_word text && nat_lt (digits_value 10 text) (2 ^ 64) then Some (digits_value 10 text) else None
 
 -- n, where it is from least to most
 abbrev pub within : ℕ → ℕ → ℕ → Option ℕ

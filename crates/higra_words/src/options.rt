@@ -2,7 +2,7 @@
 ghost use Rattle.std.specs.Prelude.{◌≡◌, ◌≤◌, IfSome, None, option_map};
 ghost use Rattle.std.specs.Char.{is_ascii_digit};
 ghost use Rattle.std.specs.List.{list_all};
-ghost use Rattle.higra_words.specs.Request.{can_be_drawn, cut_tree_by, cut_tree_named, form_by, form_named, is_number, kind_by, kind_named, level_by, made_by, number, number_in, seed_by, tile_by, workers_by};
+ghost use Rattle.higra_words.specs.Request.{can_be_drawn, cut_tree_by, cut_tree_named, form_by, form_named, is_number_word, kind_by, kind_named, level_by, made_by, number, number_in, seed_by, tile_by, workers_by};
 ghost use Rattle.higra_words.specs.Allowed.{CanMake, IsFormOf};
 
 use super::request::{Form, Made, Report};
@@ -176,7 +176,7 @@ fn number(text: &str) -> Option<u64>
 
 // Whether the text is one to twenty digits.
 fn is_number(text: &str) -> bool
-    ensures { result ≡ is_number text.now }
+    ensures { result ≡ is_number_word text.now }
 {
     is_digits(text.as_bytes()) && !text.is_empty() && text.len() <= MOST_DIGITS
 }

@@ -12,10 +12,10 @@ use Rattle.input_tokens.specs.declared.lexer.Lexer.TheVariants.{Between, Comment
 use Rattle.input_tokens.specs.Tokens.{PlacedToken, blanked, word, meaning, tokens_from, ended}
 
 -- the bytes of some token begin so
-abbrev pub IsBegun : Text → Type 0
-IsBegun (Word k) = (1 ≤ k) × (k ≤ 6)
-IsBegun (Number digits value) = (digits ≤ 10) × (value < 10 ^ digits)
-IsBegun Other = Unit {0}
+abbrev pub BeginsToken : Text → Type 0
+BeginsToken (Word k) = (1 ≤ k) × (k ≤ 6)
+BeginsToken (Number digits value) = (digits ≤ 10) × (value < 10 ^ digits)
+BeginsToken Other = Unit {0}
 
 -- what a token says whose bytes so far are these, and which goes on with more
 unfoldable pub meaning_with : Text → List ℕ → Token
@@ -33,7 +33,7 @@ HasTenDigitsAtMost _ = Unit {0}
 abbrev pub IsLexing : Lexer → Type 0
 IsLexing Between = Unit {0}
 IsLexing Comment = Unit {0}
-IsLexing (Inside start text) = IsBegun text
+IsLexing (Inside start text) = BeginsToken text
 
 -- the tokens that come of the bytes from this place on
 unfoldable pub lexed : Lexer → ℕ → List ℕ → List PlacedToken
@@ -52,8 +52,8 @@ abbrev pub GoesOn : Lexer → Lexer → List ℕ → Type 0
 GoesOn from to bytes = (place : ℕ) → GoesOnAt place from to bytes
 
 -- a token that was found, and the place behind its last byte
-abbrev pub placed : Found → ℕ → PlacedToken
-placed found to = record { from = found.at; to = to; token = found.token }
+abbrev pub placed_token : Found → ℕ → PlacedToken
+placed_token found to = record { from = found.at; to = to; token = found.token }
 
 -- between tokens, the bytes from this place on are these tokens, and each ends in them
 pub record LexesTo (place : ℕ) (bytes : List ℕ) (ts : List PlacedToken) : Type 0 where
@@ -62,4 +62,4 @@ pub record LexesTo (place : ℕ) (bytes : List ℕ) (ts : List PlacedToken) : Ty
 
 -- the bytes from this place on are the three tokens, between tokens
 abbrev pub AreThree : ℕ → List ℕ → Found → Found → Found → Type 0
-AreThree place bytes u v w = (a : ℕ) × (b : ℕ) × (c : ℕ) × LexesTo place bytes (placed u a ∷ placed v b ∷ placed w c ∷ [])
+AreThree place bytes u v w = (a : ℕ) × (b : ℕ) × (c : ℕ) × LexesTo place bytes (placed_token u a ∷ placed_token v b ∷ placed_token w c ∷ [])

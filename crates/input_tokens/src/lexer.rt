@@ -1,5 +1,5 @@
 ghost use Rattle.std.specs.Prelude.{◌≡◌, ◌+◌, ◌<◌, ◌≤◌, ◌∷◌, List, ℕ, length, take, MatchOption, IfSome};
-ghost use Rattle.input_tokens.specs.Lexing.{IsBegun, IsLexing, lexed, GoesOnAt, AreThree};
+ghost use Rattle.input_tokens.specs.Lexing.{BeginsToken, IsLexing, lexed, GoesOnAt, AreThree};
 
 use crate::runs::{count_comment, count_spaces, leading_number, read_between, read_digits};
 use crate::space::{is_line_end, is_space};
@@ -84,7 +84,7 @@ impl Lexer {
     }
 
     fn after_inside(at: u64, text: Text, place: u64, b: u8) -> (Lexer, Option<Found>)
-        requires { IsBegun text }
+        requires { BeginsToken text }
         ensures valid { IsLexing result.0 }
         ensures tokens { (rest : List ℕ) → MatchOption result.1
             (lexed (Lexer.Inside at text) place (b ∷ rest) ≡ lexed result.0 (place + 1) rest)

@@ -1,6 +1,6 @@
 // Runs of bytes that end no token: white space, a comment, the digits of a number.
 ghost use Rattle.std.specs.Prelude.{◌≡◌, ◌+◌, ◌<◌, ◌≤◌, ◌∷◌, [], List, ℕ, length, take, IfSome};
-ghost use Rattle.input_tokens.specs.Lexing.{IsBegun, IsLexing, GoesOnAt, GoesOn, placed, LexesTo};
+ghost use Rattle.input_tokens.specs.Lexing.{BeginsToken, IsLexing, GoesOnAt, GoesOn, placed_token, LexesTo};
 
 use crate::lexer::Lexer;
 use crate::space::{is_line_end, is_space};
@@ -9,7 +9,7 @@ use crate::token::Found;
 
 // Reads the digits that go on with the number that begins at this place. Answers how many they are.
 pub(crate) fn read_digits(at: u64, digits: u8, value: u64, piece: &[u8]) -> (Lexer, usize)
-    requires { IsBegun (Text.Number digits value) }
+    requires { BeginsToken (Text.Number digits value) }
     ensures valid { IsLexing result.0 }
     ensures count { result.1 ≤ length piece.now }
     ensures tokens { GoesOn (Lexer.Inside at (Text.Number digits value)) result.0 (take result.1 piece.now) }
@@ -42,7 +42,7 @@ fn read_number(place: u64, first: u8, others: &[u8]) -> (Lexer, usize)
 // how many bytes both are.
 pub(crate) fn leading_number(place: u64, piece: &[u8]) -> Option<(Found, usize)>
     ensures count { IfSome result (λ r. (0 < r.1) × (r.1 ≤ length piece.now)) }
-    ensures tokens { IfSome result (λ r. (to : ℕ) × LexesTo place (take r.1 piece.now) (placed r.0 to ∷ [])) }
+    ensures tokens { IfSome result (λ r. (to : ℕ) × LexesTo place (take r.1 piece.now) (placed_token r.0 to ∷ [])) }
 {
     let (first, others) = piece.split_first()?;
     if !first.is_ascii_digit() {

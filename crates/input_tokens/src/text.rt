@@ -1,6 +1,6 @@
 ghost use Rattle.std.specs.Prelude.{◌≡◌, ◌∷◌, [], List, ℕ};
 ghost use Rattle.input_tokens.specs.Tokens.{meaning};
-ghost use Rattle.input_tokens.specs.Lexing.{HasTenDigitsAtMost, IsBegun, meaning_with};
+ghost use Rattle.input_tokens.specs.Lexing.{HasTenDigitsAtMost, BeginsToken, meaning_with};
 
 use crate::token::Token;
 
@@ -20,7 +20,7 @@ pub enum Text {
 impl Text {
     /// The text of one byte.
     pub fn begun(b: u8) -> Text
-        ensures valid { IsBegun result }
+        ensures valid { BeginsToken result }
         ensures meaning { (more : List ℕ) → meaning_with result more ≡ meaning (b ∷ more) }
     {
         if b.is_ascii_digit() {
@@ -34,8 +34,8 @@ impl Text {
 
     /// The text with one byte more.
     pub fn with(self, b: u8) -> Text
-        requires { IsBegun self }
-        ensures valid { IsBegun result }
+        requires { BeginsToken self }
+        ensures valid { BeginsToken result }
         ensures meaning { (more : List ℕ) → meaning_with result more ≡ meaning_with self (b ∷ more) }
     {
         match self {
@@ -59,7 +59,7 @@ impl Text {
 
     /// What the text says, as a whole token.
     pub fn token(self) -> Token
-        requires { IsBegun self }
+        requires { BeginsToken self }
         ensures value { result ≡ meaning_with self [] }
         ensures digits { HasTenDigitsAtMost result }
     {

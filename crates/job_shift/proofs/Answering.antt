@@ -8,7 +8,7 @@ use lib.ListN.{get_elem?}
 use Rattle.atomic_table.specs.Table.{Final, Seen}
 use Rattle.job_shift.specs.Times.{times, total, jobs, times_out}
 use Rattle.job_shift.specs.Shift.{ShiftTable, IsShift, Shows, steps}
-use Rattle.job_shift.specs.Hands.{HandState, handed, joined}
+use Rattle.job_shift.specs.Hands.{HandState, handed, joined_hands}
 use Rattle.job_shift.specs.HandedNumbers.{IsHandedTo}
 use Rattle.job_shift.specs.Finishing.{entered, handed_among, with_each}
 use Rattle.job_shift.specs.declared.view.HandView.{HandView}
@@ -41,7 +41,7 @@ pub closed_with_all : (count workers id : ℕ) (v : HandView) (words : List ℕ)
 closed_with_all count workers id v words slots f missed all j low = all_got count workers id v f.0 f.1.0 f.1.1 missed all j low
 
 -- what two joined views have
-pub times-joined : (j : ℕ) (u v : HandView) → times j (jobs (joined u v)) ≡ times j (jobs u) + times j (jobs v)
+pub times-joined : (j : ℕ) (u v : HandView) → times j (jobs (joined_hands u v)) ≡ times j (jobs u) + times j (jobs v)
 times-joined j u v = ap (λ (l : List ℕ). times j l) (map-append (λ (p : Pair). p.job) u.pairs v.pairs) ∙ times-append j (jobs u) (jobs v)
 
 pub handed_among-snoc : (hands : List HandState) (hand : HandState) (j : ℕ) → handed_among (hands ++ hand ∷ []) j ≡ handed_among hands j + times j (handed hand)

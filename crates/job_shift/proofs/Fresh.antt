@@ -7,7 +7,7 @@ use Rattle.std.proofs.lemmas.List.Elements.{All-map}
 use Rattle.std.proofs.lemmas.List.FromFn.{length-range_with_len, map-range_with_len_more}
 use mathlib.Core.Option.{some, some-injective, some-ne-none}
 use lib.ListN.{get_elem?}
-use Rattle.job_shift.specs.Hands.{HandState, ShiftState, IsHandOf, IsFresh, AreAllHands, numbers, first_view, fresh_hand, fresh_hands, split_left, split_right}
+use Rattle.job_shift.specs.Hands.{HandState, ShiftState, IsHandOf, IsFresh, AreAllHands, hand_numbers, first_view, fresh_hand, fresh_hands, split_left, split_right}
 use Rattle.job_shift.specs.HandedNumbers.{IsUnstarted}
 use Rattle.job_shift.specs.declared.view.HandView.{HandView}
 use Rattle.job_shift.specs.declared.view.Pair.{Pair}
@@ -63,7 +63,7 @@ numbers_of : (b : ShiftState) (ns : List ℕ) → map (λ (hand : HandState). ha
 numbers_of b [] = refl
 numbers_of b (n ∷ ns) = ap (λ (l : List ℕ). n ∷ l) (numbers_of b ns)
 
-pub fresh_numbers : (b : ShiftState) → numbers (fresh_hands b) ≡ range_with_len 0 b.workers
+pub fresh_numbers : (b : ShiftState) → hand_numbers (fresh_hands b) ≡ range_with_len 0 b.workers
 fresh_numbers b = numbers_of b (range_with_len 0 b.workers)
 
 fresh_pairs : (b : ShiftState) (ns : List ℕ) (place : ℕ) (hand : HandState) → get_elem? (map (fresh_hand b) ns) place ≡ some hand → hand.view.pairs ≡ []

@@ -8,7 +8,7 @@ use Rattle.atomic_table.specs.Table.{Splits, Joins}
 use Rattle.atomic_table.proofs.Lists.{at_snoc, set_else}
 use Rattle.job_shift.specs.Times.{times, times_out, jobs, pair_count, missed_share}
 use Rattle.job_shift.specs.Shift.{ShiftTable, IsShift, Shows, steps}
-use Rattle.job_shift.specs.Hands.{split_left, split_right, joined, left_over}
+use Rattle.job_shift.specs.Hands.{split_left, split_right, joined_hands, left_over}
 use Rattle.job_shift.specs.declared.view.HandView.{HandView}
 use Rattle.job_shift.specs.declared.view.Pair.{Pair}
 use Rattle.job_shift.proofs.Sums.{times-append, total_set, total_snoc, missed_none, missed_whole}
@@ -60,7 +60,7 @@ may_split count workers id v none fresh share s b shows = record {
     each P k u left right old e = each_snoc P (slice_set s.views id l) k r u right (λ n x f. each_set P s.views id n l x left old f) e
 
 -- two hands that have missed are joined
-pub may_join : (count workers id other : ℕ) (v u : HandView) → v.missed ≡ true → u.missed ≡ true → 1 ≤ v.share → Joins (IsShift count workers) id v other u (joined v u) left_over
+pub may_join : (count workers id other : ℕ) (v u : HandView) → v.missed ≡ true → u.missed ≡ true → 1 ≤ v.share → Joins (IsShift count workers) id v other u (joined_hands v u) left_over
 may_join count workers id other v u missed missed' share s b shows ne shows' = record {
   some_job = b.some_job;
   few_jobs = b.few_jobs;
@@ -80,7 +80,7 @@ may_join count workers id other v u missed missed' share s b shows ne shows' = r
 }
   where
     w : HandView
-    w = joined v u
+    w = joined_hands v u
 
     views' : List HandView
     views' = slice_set s.views id w

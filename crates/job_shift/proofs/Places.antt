@@ -14,7 +14,7 @@ use Rattle.job_shift.specs.Hands.{HandState, ShiftState, handed}
 use Rattle.job_shift.specs.HandedNumbers.{IsHandedTo}
 use Rattle.job_shift.specs.Finishing.{handed_among}
 use Rattle.job_shift.specs.Doing.{AreTexts, HaveDone, done_jobs}
-use Rattle.job_shift.specs.Placing.{texts_of}
+use Rattle.job_shift.specs.Placing.{bytes_of_texts}
 use Rattle.job_shift.specs.declared.working.Done.{Done}
 use Rattle.job_shift.proofs.Sums.{one_if, one_if-other, times-append}
 use Rattle.job_shift.proofs.Popped.{popped_front, popped_last}
@@ -45,7 +45,7 @@ same_lists (x ∷ xs) (y ∷ ys) l e =
 -- Of the jobs that were done at the start, these are left; each other's text stands at its place.
 abbrev pub IsPlaced : List Done → List Done → Texts → Type 0
 IsPlaced start left places = (texts : List (List ℕ)) → AreTexts texts start
-    → AreTexts texts left × ((j : ℕ) → 1 ≤ times j (done_jobs start) → (1 ≤ times j (done_jobs left)) ⊎ (slice_get (texts_of places) j ≡ slice_get texts j))
+    → AreTexts texts left × ((j : ℕ) → 1 ≤ times j (done_jobs start) → (1 ≤ times j (done_jobs left)) ⊎ (slice_get (bytes_of_texts places) j ≡ slice_get texts j))
 
 pub none_placed : (start : List Done) (places : Texts) → IsPlaced start start places
 none_placed start places texts are = (are, λ j h. inl h)
@@ -54,25 +54,25 @@ none_placed start places texts are = (are, λ j h. inl h)
 pub one_placed : (start rest front : List Done) (d : Done) (places placed : Texts) → IsPlaced start rest places → rest ≡ front ++ d ∷ [] → d.job < length places → placed ≡ slice_set places d.job d.text → IsPlaced start front placed
 one_placed start rest front d places placed old e low set texts are = (popped_front (λ (x : Done). slice_get texts x.job ≡ Some x.text.items) rest front d e (old texts are).0, at)
   where
-    after : texts_of placed ≡ slice_set (texts_of places) d.job d.text.items
-    after = ap (λ (l : Texts). texts_of l) set ∙ map-set (λ (t : Vec ℕ Global). t.items) places d.job d.text
+    after : bytes_of_texts placed ≡ slice_set (bytes_of_texts places) d.job d.text.items
+    after = ap (λ (l : Texts). bytes_of_texts l) set ∙ map-set (λ (t : Vec ℕ Global). t.items) places d.job d.text
 
-    here : slice_get (texts_of placed) d.job ≡ slice_get texts d.job
-    here = ap (λ (l : List (List ℕ)). slice_get l d.job) after ∙ set_here (texts_of places) d.job d.text.items (let l = length-map places (λ (t : Vec ℕ Global). t.items) in omega arith)
+    here : slice_get (bytes_of_texts placed) d.job ≡ slice_get texts d.job
+    here = ap (λ (l : List (List ℕ)). slice_get l d.job) after ∙ set_here (bytes_of_texts places) d.job d.text.items (let l = length-map places (λ (t : Vec ℕ Global). t.items) in omega arith)
         ∙ sym (popped_last (λ (x : Done). slice_get texts x.job ≡ Some x.text.items) rest front d e (old texts are).0)
 
-    at : (j : ℕ) → 1 ≤ times j (done_jobs start) → (1 ≤ times j (done_jobs front)) ⊎ (slice_get (texts_of placed) j ≡ slice_get texts j)
+    at : (j : ℕ) → 1 ≤ times j (done_jobs start) → (1 ≤ times j (done_jobs front)) ⊎ (slice_get (bytes_of_texts placed) j ≡ slice_get texts j)
     at j h = elim (cases_eq d.job j) [
-      | inl same ↦ inr (subst (λ (k : ℕ). slice_get (texts_of placed) k ≡ slice_get texts k) same here)
+      | inl same ↦ inr (subst (λ (k : ℕ). slice_get (bytes_of_texts placed) k ≡ slice_get texts k) same here)
       | inr ne ↦ elim ((old texts are).1 j h) [
         | inl more ↦ inl (let a : times j (done_jobs rest) ≡ times j (done_jobs front ++ d.job ∷ []) = ap (λ (l : List Done). times j (done_jobs l)) e ∙ ap (λ (l : List ℕ). times j l) (map-append (λ (x : Done). x.job) front (d ∷ [])) in
             let b = times-append j (done_jobs front) (d.job ∷ []) in let o = one_if-other j d.job ne in omega arith)
-        | inr right ↦ inr (ap (λ (l : List (List ℕ)). slice_get l j) after ∙ set_other (texts_of places) d.job j d.text.items (λ k. ne (sym k)) ∙ right)
+        | inr right ↦ inr (ap (λ (l : List (List ℕ)). slice_get l j) after ∙ set_other (bytes_of_texts places) d.job j d.text.items (λ k. ne (sym k)) ∙ right)
       ]
     ]
 
 -- where none is left, all are placed
-pub all_placed : (start left : List Done) (places : Texts) (texts : List (List ℕ)) (j : ℕ) → IsPlaced start left places → left ≡ [] → AreTexts texts start → 1 ≤ times j (done_jobs start) → slice_get (texts_of places) j ≡ slice_get texts j
+pub all_placed : (start left : List Done) (places : Texts) (texts : List (List ℕ)) (j : ℕ) → IsPlaced start left places → left ≡ [] → AreTexts texts start → 1 ≤ times j (done_jobs start) → slice_get (bytes_of_texts places) j ≡ slice_get texts j
 all_placed start left places texts j placed e are h = elim ((placed texts are).1 j h) [
   | inl more ↦ absurd (let z : times j (done_jobs left) ≡ 0 = ap (λ (l : List Done). times j (done_jobs l)) e in omega arith)
   | inr right ↦ right
@@ -83,12 +83,12 @@ pub done_below : (texts : List (List ℕ)) (done : List Done) (count : ℕ) → 
 done_below texts done count same are = λ k d h. (let w = slice_get_within texts _ _ (are k d h) in omega arith)
 
 -- one text more
-pub one_more : (texts : Texts) (i : ℕ) (t : Vec ℕ Global) (bytes more : List ℕ) → i < length texts → t ≡ get_or texts i t → bytes ≡ concat (texts_of (take i texts)) → more ≡ bytes ++ t.items → more ≡ concat (texts_of (take (i + 1) texts))
+pub one_more : (texts : Texts) (i : ℕ) (t : Vec ℕ Global) (bytes more : List ℕ) → i < length texts → t ≡ get_or texts i t → bytes ≡ concat (bytes_of_texts (take i texts)) → more ≡ bytes ++ t.items → more ≡ concat (bytes_of_texts (take (i + 1) texts))
 one_more texts i t bytes more low is old e =
     let a = ap (λ (l : List (List ℕ)). concat l) (map_more (λ (x : Vec ℕ Global). x.items) texts i t low) in
-    let b = concat-append (texts_of (take i texts)) ((get_or texts i t).items ∷ []) in
+    let b = concat-append (bytes_of_texts (take i texts)) ((get_or texts i t).items ∷ []) in
     let c : (get_or texts i t).items ++ [] ≡ t.items = append-nil (get_or texts i t).items ∙ ap (λ (x : Vec ℕ Global). x.items) (sym is) in
-    e ∙ ap (λ (l : List ℕ). l ++ t.items) old ∙ sym (a ∙ b ∙ ap (λ (l : List ℕ). concat (texts_of (take i texts)) ++ l) c)
+    e ∙ ap (λ (l : List ℕ). l ++ t.items) old ∙ sym (a ∙ b ∙ ap (λ (l : List ℕ). concat (bytes_of_texts (take i texts)) ++ l) c)
 
 -- a hand got no more than all
 among_has : (hands : List HandState) (k j : ℕ) (h : HandState) → get_elem? hands k ≡ some h → times j (handed h) ≤ handed_among hands j
@@ -103,7 +103,7 @@ was_done texts shift new done j n have to =
 
 -- all places have their texts
 pub all_texts : (texts : List (List ℕ)) (shift : ShiftState) (new : List HandState) (done : List Done) (places : Texts) (answer : ℕ → ℕ) → HaveDone texts shift [] new done
-    → length places ≡ length texts → ((j : ℕ) → 1 ≤ times j (done_jobs done) → slice_get (texts_of places) j ≡ slice_get texts j) → ((i : ℕ) → i < length texts → IsHandedTo new i (answer i)) → texts_of places ≡ texts
+    → length places ≡ length texts → ((j : ℕ) → 1 ≤ times j (done_jobs done) → slice_get (bytes_of_texts places) j ≡ slice_get texts j) → ((i : ℕ) → i < length texts → IsHandedTo new i (answer i)) → bytes_of_texts places ≡ texts
 all_texts texts shift new done places answer have long placed to =
-    same_lists (texts_of places) texts (length-map places (λ (t : Vec ℕ Global). t.items) ∙ long)
+    same_lists (bytes_of_texts places) texts (length-map places (λ (t : Vec ℕ Global). t.items) ∙ long)
     (λ k low. placed k (was_done texts shift new done k (answer k) have (to k (let l = length-map places (λ (t : Vec ℕ Global). t.items) in omega arith))))

@@ -39,8 +39,8 @@ pub record AreAllHands (hands : List HandState) (shift : ShiftState) : Type 0 wh
   pub each : All (λ hand. IsHandOf hand shift) hands
 
 -- the numbers of the hands, in order
-abbrev pub numbers : List HandState → List ℕ
-numbers hands = map (λ hand. hand.view.number) hands
+abbrev pub hand_numbers : List HandState → List ℕ
+hand_numbers hands = map (λ hand. hand.view.number) hands
 
 -- the first view: it stands for all workers
 abbrev pub first_view : ℕ → ℕ → HandView
@@ -68,8 +68,8 @@ abbrev pub split_right : HandView → HandView
 split_right v = record v { share = 1; number = v.share - 1 }
 
 -- the view of two hands that are joined, and what is left over
-abbrev pub joined : HandView → HandView → HandView
-joined u v = record u { share = u.share + v.share; pairs = u.pairs ++ v.pairs }
+abbrev pub joined_hands : HandView → HandView → HandView
+joined_hands u v = record u { share = u.share + v.share; pairs = u.pairs ++ v.pairs }
 
 abbrev pub left_over : HandView
 left_over = first_view 0 0

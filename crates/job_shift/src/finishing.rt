@@ -1,6 +1,6 @@
 ghost use Rattle.std.specs.Prelude.{◌≡◌, ℕ, ◌<◌, ◌≤◌, [], true, All, length, slice_index};
 ghost use Rattle.job_shift.specs.Times.{jobs, times};
-ghost use Rattle.job_shift.specs.Hands.{AreAllHands, HasMissed, handed, joined};
+ghost use Rattle.job_shift.specs.Hands.{AreAllHands, HasMissed, handed, joined_hands};
 ghost use Rattle.job_shift.specs.HandedNumbers.{IsHandedTo};
 ghost use Rattle.job_shift.specs.Finishing.{IsHandAt, entered, handed_among, with_each};
 
@@ -86,7 +86,7 @@ fn take_in(table: &NumberTable, token: &mut Token, other: Token)
     requires share { 1 ≤ token.old.me.0.share }
     requires slots { other.me.1 ≡ [] }
     ensures table { token.new.table_id ≡ token.old.table_id }
-    ensures view { token.new.me.0 ≡ joined token.old.me.0 other.me.0 }
+    ensures view { token.new.me.0 ≡ joined_hands token.old.me.0 other.me.0 }
 {
     table.shared.join_seat::<AllWorkers>(token, other);
 }

@@ -5,7 +5,7 @@
 ghost use Rattle.std.specs.Prelude.{◌≡◌, ℕ, ◌+◌, ◌%◌, ◌^◌, ◌<◌, ◌≤◌, [], ◌∷◌, true, false};
 ghost use Rattle.atomic_table.specs.Table.{Allows, Splits, Joins, opening};
 ghost use Rattle.job_shift.specs.Shift.{ShiftTable, IsShift, IsPairOf, Shows, steps};
-ghost use Rattle.job_shift.specs.Hands.{first_view, split_left, split_right, joined, left_over};
+ghost use Rattle.job_shift.specs.Hands.{first_view, split_left, split_right, joined_hands, left_over};
 ghost use Rattle.job_shift.specs.Steps.{Hold, Steps};
 ghost use Rattle.job_shift.specs.declared.view.HandView.{HandView};
 
@@ -24,7 +24,7 @@ pub fn steps_keep_the_rule()
 pub fn hands_keep_the_rule()
     ensures split { (count workers id : ℕ) (v : HandView) → v.pairs ≡ [] → v.missed ≡ false → 2 ≤ v.share → Splits (IsShift count workers) id v (split_left v) (split_right v) }
     ensures join { (count workers id other : ℕ) (v u : HandView) → v.missed ≡ true → u.missed ≡ true → 1 ≤ v.share
-        → Joins (IsShift count workers) id v other u (joined v u) left_over }
+        → Joins (IsShift count workers) id v other u (joined_hands v u) left_over }
 {}
 
 /// At every moment the numbers that were handed out are those of jobs and are distinct, and they are the first so many

@@ -2,7 +2,7 @@ ghost use Rattle.std.specs.Prelude.{◌≡◌, ℕ, ◌<◌, ◌≤◌, All, IfO
 ghost use Rattle.std.specs.List.{concat};
 ghost use Rattle.job_shift.specs.Times.{times};
 ghost use Rattle.job_shift.specs.Doing.{AreTexts, done_jobs};
-ghost use Rattle.job_shift.specs.Placing.{texts_of};
+ghost use Rattle.job_shift.specs.Placing.{bytes_of_texts};
 
 use crate::working::Done;
 use hg_base::OutOfMemory;
@@ -16,7 +16,7 @@ pub(crate) fn placed(
 ) -> Result<Vec<Vec<u8>>, OutOfMemory>
     requires { All (λ d. d.job < count) done.items }
     ensures count { IfOk result (λ places. length places.items ≡ count) }
-    ensures placed { IfOk result (λ places. (texts : List (List ℕ)) (j : ℕ) → AreTexts texts done.items → 1 ≤ times j (done_jobs done.items) → slice_get (texts_of places.items) j ≡ slice_get texts j) }
+    ensures placed { IfOk result (λ places. (texts : List (List ℕ)) (j : ℕ) → AreTexts texts done.items → 1 ≤ times j (done_jobs done.items) → slice_get (bytes_of_texts places.items) j ≡ slice_get texts j) }
 {
     let mut places = empty_places(alloc, count)?;
     while let Some(one) = done.pop() {
@@ -46,7 +46,7 @@ fn empty_places(alloc: Global, count: u32) -> Result<Vec<Vec<u8>>, OutOfMemory>
 
 // The texts end to end.
 pub(crate) fn end_to_end(alloc: Global, texts: &[Vec<u8>]) -> Result<Vec<u8>, OutOfMemory>
-    ensures { IfOk result (λ bytes. bytes.items ≡ concat (texts_of texts.now)) }
+    ensures { IfOk result (λ bytes. bytes.items ≡ concat (bytes_of_texts texts.now)) }
 {
     let mut bytes = Vec::new(alloc);
     for text in texts {

@@ -1,6 +1,6 @@
 ghost use Rattle.job_shift.specs.RuleOfKey.{rule_of, first_of};
 ghost use Rattle.job_shift.specs.Steps.{Steps};
-ghost use Rattle.job_shift.specs.Hands.{split_left, split_right, joined, left_over};
+ghost use Rattle.job_shift.specs.Hands.{split_left, split_right, joined_hands, left_over};
 
 use crate::view::{HandView, Key};
 use atomic_table::{Join, Play, Split, TableRule};
@@ -33,7 +33,7 @@ impl Split<HandView> for OneWorker {
 pub(crate) struct AllWorkers;
 
 impl Join<HandView> for AllWorkers {
-    ghost both = { joined };
+    ghost both = { joined_hands };
 
     ghost spent = { left_over };
 }

@@ -1,6 +1,6 @@
 ghost use Rattle.std.specs.Prelude.{◌≡◌, ◌+◌, ◌≤◌, All, IfOk, [], replicate, vec_capacity};
 ghost use Rattle.std.specs.List.{range_with_len};
-ghost use Rattle.job_shift.specs.Hands.{AreAllHands, IsFresh, IsHandOf, first_view, fresh_hands, numbers, split_left, split_right};
+ghost use Rattle.job_shift.specs.Hands.{AreAllHands, IsFresh, IsHandOf, first_view, fresh_hands, hand_numbers, split_left, split_right};
 ghost use Rattle.job_shift.specs.HandedNumbers.{IsUnstarted};
 
 use crate::hand::Hand;
@@ -25,7 +25,7 @@ impl Shift {
         ensures hands { IfOk result (λ made. AreAllHands made.1.items made.0) }
         ensures fresh { IfOk result (λ made. All IsFresh made.1.items) }
         ensures unstarted { IfOk result (λ made. IsUnstarted made.1.items made.0) }
-        ensures numbers { IfOk result (λ made. numbers made.1.items ≡ range_with_len 0 workers) }
+        ensures numbers { IfOk result (λ made. hand_numbers made.1.items ≡ range_with_len 0 workers) }
     {
         let (shift, first) = opened_shift(alloc, count, workers)?;
         let hands = dealt(alloc, &shift, first, workers)?;

@@ -1,6 +1,7 @@
 -- The bytes of labels: as a text, and as a picture in the binary form P5 of the PGM format.
-use Rattle.std.specs.Prelude.{ℕ, ◌/◌, ◌%◌, nat_lt, if◌then◌else◌, List, [], ◌∷◌, ◌++◌, codes, length}
+use Rattle.std.specs.Prelude.{ℕ, List, [], ◌∷◌, ◌++◌, codes, length}
 use Rattle.std.specs.List.{range_with_len, flat_map}
+use Rattle.hg_base.specs.Samples.{sample_bytes}
 use Rattle.hg_base.specs.Text.{line, headed_line}
 use Rattle.hg_base.specs.Labels.{Labelling}
 use Rattle.report_lines.specs.Lines.{value_line}
@@ -8,10 +9,6 @@ use Rattle.report_lines.specs.Lines.{value_line}
 -- the line of the report, and then one for each vertex
 abbrev pub labels_report : Labelling → List ℕ
 labels_report l = headed_line (codes "labels") (length l.labels ∷ l.count ∷ []) ++ flat_map (value_line l.labels) (range_with_len 0 (length l.labels))
-
--- the bytes of a sample: one where the greatest value is below 256, else two, with the most significant first
-abbrev pub sample_bytes : ℕ → ℕ → List ℕ
-sample_bytes greatest sample = if nat_lt greatest 256 then sample ∷ [] else sample / 256 ∷ sample % 256 ∷ []
 
 -- the header of a picture of this width, height and greatest value: a line each for the form, the sizes and that value
 abbrev pub header : ℕ → ℕ → ℕ → List ℕ

@@ -1,6 +1,7 @@
 ghost use Rattle.std.specs.Prelude.{◌≡◌, ◌↔◌, ℕ, ◌*◌, ◌<◌, ◌≤◌, ◌++◌, length, Err, IfOk, OnOk};
 ghost use Rattle.std.specs.List.{flat_map};
-ghost use Rattle.label_writer.specs.Report.{sample_bytes, header, labels_picture};
+ghost use Rattle.hg_base.specs.Samples.{sample_bytes};
+ghost use Rattle.label_writer.specs.Report.{header, labels_picture};
 
 use hg_base::{Labels, push_line};
 use std::alloc::{AllocError, Global};

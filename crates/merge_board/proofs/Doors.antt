@@ -5,7 +5,7 @@ use Rattle.tile_plan.specs.Plan.{TilePlan, IsPlan, tile_count, root, parent, sid
 use Rattle.tile_plan.specs.Sites.{other_side}
 use Rattle.tile_plan.specs.declared.site.Side.{Side}
 use Rattle.tile_plan.specs.declared.site.Side.TheVariants as sides
-use Rattle.tile_plan.specs.Grids.{tree_in}
+use Rattle.tile_plan.specs.Grids.{grid_tree}
 use Rattle.tile_plan.proofs.Cuts.{tiles-some}
 use Rattle.tile_plan.proofs.Parents.{has_parent, plan-tiles}
 use Rattle.merge_board.specs.Board.{IsPart, word_of, door, toll_of, toll}
@@ -32,7 +32,7 @@ same_toll sides.Right sides.Right e = refl
 module _ (p : TilePlan) (plan : IsPlan p) where
   -- a plan has a tile
   pub some_plan : 1 ≤ tile_count p
-  some_plan = let a = plan-tiles p plan in let b = tiles-some (tree_in (grid_of p)) in omega (arith, a, b)
+  some_plan = let a = plan-tiles p plan in let b = tiles-some (grid_tree (grid_of p)) in omega (arith, a, b)
 
   -- no arrival is at word 0, and each is at a word
   pub door_some : (i : ℕ) → IsPart p i → 1 ≤ door p i

@@ -7,7 +7,7 @@ use Rattle.atomic_table.specs.Table.{Splits, Joins}
 use Rattle.atomic_table.proofs.Lists.{at_snoc, at_longer, set_else}
 use Rattle.tile_plan.specs.Plan.{TilePlan}
 use Rattle.merge_board.specs.Board.{IsBoard, Shows, missed_share}
-use Rattle.merge_board.specs.Seats.{split_left, split_right, joined, left_over}
+use Rattle.merge_board.specs.Seats.{split_left, split_right, joined_seats, left_over}
 use Rattle.merge_board.specs.declared.view.View.{View}
 use Rattle.merge_board.proofs.Changes.{IsChange, shown, apart_from}
 use Rattle.merge_board.proofs.Calm.{IsCalm, calm_as, calm_views}
@@ -55,25 +55,25 @@ may_split p workers id v hand fresh share s b shows = record {
     kept k i u h e = at_longer (slice_set s.views id (split_left v)) (split_right v ∷ []) k u (view.others k (apart_from (get_elem? s.views) id k i u v shows hand h e) ∙ h)
 
 -- two seats that are idle and have missed are joined
-pub may_join : (p : TilePlan) (workers id other : ℕ) (v u : View) → v.hand ≡ None → v.missed ≡ true → u.hand ≡ None → u.missed ≡ true → 1 ≤ v.share → Joins (IsBoard p workers) id v other u (joined v u) left_over
+pub may_join : (p : TilePlan) (workers id other : ℕ) (v u : View) → v.hand ≡ None → v.missed ≡ true → u.hand ≡ None → u.missed ≡ true → 1 ≤ v.share → Joins (IsBoard p workers) id v other u (joined_seats v u) left_over
 may_join p workers id other v u hand missed hand' missed' share s b shows ne shows' = record {
   plan = b.plan;
   some_worker = b.some_worker;
   few_workers = b.few_workers;
   words = b.words;
   slots = b.slots;
-  order = calm_views p workers (slice_index s.words) (get_elem? s.homes) (get_elem? s.views) (get_elem? (slice_set (slice_set s.views id (joined v u)) other left_over)) b.order old kept;
-  shares = (let t = total_set (λ x. x.share) s.views id v (joined v u) shows in let q = total_set (λ x. x.share) (slice_set s.views id (joined v u)) other u left_over shows' in let r = b.shares in omega arith);
-  draws = (let t = total_set missed_share s.views id v (joined v u) shows in let q = total_set missed_share (slice_set s.views id (joined v u)) other u left_over shows' in
-      let a = missed_whole v missed in let c = missed_whole u missed' in let d = missed_whole (joined v u) missed in let e = missed_none left_over refl in
-      let m = most_seen_set s.views id v (joined v u) shows (omega arith) in let n = most_seen_less (slice_set s.views id (joined v u)) other id u left_over (joined v u) (λ same. ne (sym same)) shows' view.here (omega arith) in let r = b.draws in omega arith);
+  order = calm_views p workers (slice_index s.words) (get_elem? s.homes) (get_elem? s.views) (get_elem? (slice_set (slice_set s.views id (joined_seats v u)) other left_over)) b.order old kept;
+  shares = (let t = total_set (λ x. x.share) s.views id v (joined_seats v u) shows in let q = total_set (λ x. x.share) (slice_set s.views id (joined_seats v u)) other u left_over shows' in let r = b.shares in omega arith);
+  draws = (let t = total_set missed_share s.views id v (joined_seats v u) shows in let q = total_set missed_share (slice_set s.views id (joined_seats v u)) other u left_over shows' in
+      let a = missed_whole v missed in let c = missed_whole u missed' in let d = missed_whole (joined_seats v u) missed in let e = missed_none left_over refl in
+      let m = most_seen_set s.views id v (joined_seats v u) shows (omega arith) in let n = most_seen_less (slice_set s.views id (joined_seats v u)) other id u left_over (joined_seats v u) (λ same. ne (sym same)) shows' view.here (omega arith) in let r = b.draws in omega arith);
 }
   where
     views' : List View
-    views' = slice_set s.views id (joined v u)
+    views' = slice_set s.views id (joined_seats v u)
 
     other_shows : Shows (get_elem? s.views) other u
-    other_shows = sym (set_else s.views id other (joined v u) ne) ∙ shows'
+    other_shows = sym (set_else s.views id other (joined_seats v u) ne) ∙ shows'
 
     calm : IsCalm p workers (slice_index s.words) v
     calm = calm_as p workers (slice_index s.words) (get_elem? s.homes) (get_elem? s.views) b.order id v shows hand
@@ -81,26 +81,26 @@ may_join p workers id other v u hand missed hand' missed' share s b shows ne sho
     calm' : IsCalm p workers (slice_index s.words) u
     calm' = calm_as p workers (slice_index s.words) (get_elem? s.homes) (get_elem? s.views) b.order other u other_shows hand'
 
-    joined_calm : IsCalm p workers (slice_index s.words) (joined v u)
+    joined_calm : IsCalm p workers (slice_index s.words) (joined_seats v u)
     joined_calm = record { hand = hand; missed = calm.missed; plan = λ q. calm.plan share; seen = (let a = calm.seen in let c = calm'.seen in (omega arith, omega arith)); over = λ e. absurd (let a : v.share + u.share ≡ 0 = e in omega arith) }
 
     over_calm : IsCalm p workers (slice_index s.words) left_over
     over_calm = record { hand = refl; missed = λ e. calm.missed missed; plan = λ q. absurd (omega arith); seen = (omega arith, omega arith); over = λ e. refl }
 
-    view : IsChange (get_elem? s.views) (get_elem? (slice_set s.views id (joined v u))) id (some (joined v u))
-    view = changed_list s.views id (joined v u) (within_list s.views id v shows)
+    view : IsChange (get_elem? s.views) (get_elem? (slice_set s.views id (joined_seats v u))) id (some (joined_seats v u))
+    view = changed_list s.views id (joined_seats v u) (within_list s.views id v shows)
 
-    view' : IsChange (get_elem? (slice_set s.views id (joined v u))) (get_elem? (slice_set (slice_set s.views id (joined v u)) other left_over)) other (some left_over)
-    view' = changed_list (slice_set s.views id (joined v u)) other left_over (within_list (slice_set s.views id (joined v u)) other u shows')
+    view' : IsChange (get_elem? (slice_set s.views id (joined_seats v u))) (get_elem? (slice_set (slice_set s.views id (joined_seats v u)) other left_over)) other (some left_over)
+    view' = changed_list (slice_set s.views id (joined_seats v u)) other left_over (within_list (slice_set s.views id (joined_seats v u)) other u shows')
 
-    old : (k : ℕ) (x : View) → Shows (get_elem? (slice_set (slice_set s.views id (joined v u)) other left_over)) k x → Shows (get_elem? s.views) k x ⊎ IsCalm p workers (slice_index s.words) x
-    old k x h = elim (shown (get_elem? (slice_set s.views id (joined v u))) (get_elem? (slice_set (slice_set s.views id (joined v u)) other left_over)) other k left_over x view' h) [
+    old : (k : ℕ) (x : View) → Shows (get_elem? (slice_set (slice_set s.views id (joined_seats v u)) other left_over)) k x → Shows (get_elem? s.views) k x ⊎ IsCalm p workers (slice_index s.words) x
+    old k x h = elim (shown (get_elem? (slice_set s.views id (joined_seats v u))) (get_elem? (slice_set (slice_set s.views id (joined_seats v u)) other left_over)) other k left_over x view' h) [
       | inl e ↦ inr (subst (λ (z : View). IsCalm p workers (slice_index s.words) z) e.1 over_calm)
-      | inr t ↦ elim (shown (get_elem? s.views) (get_elem? (slice_set s.views id (joined v u))) id k (joined v u) x view t.1) [
+      | inr t ↦ elim (shown (get_elem? s.views) (get_elem? (slice_set s.views id (joined_seats v u))) id k (joined_seats v u) x view t.1) [
         | inl e ↦ inr (subst (λ (z : View). IsCalm p workers (slice_index s.words) z) e.1 joined_calm)
         | inr e ↦ inl e.1
       ]
     ]
 
-    kept : (k i : ℕ) (x : View) → Shows (get_elem? s.views) k x → x.hand ≡ Some i → Shows (get_elem? (slice_set (slice_set s.views id (joined v u)) other left_over)) k x
+    kept : (k i : ℕ) (x : View) → Shows (get_elem? s.views) k x → x.hand ≡ Some i → Shows (get_elem? (slice_set (slice_set s.views id (joined_seats v u)) other left_over)) k x
     kept k i x h e = view'.others k (apart_from (get_elem? s.views) other k i x u other_shows hand' h e) ∙ view.others k (apart_from (get_elem? s.views) id k i x v shows hand h e) ∙ h

@@ -5,7 +5,7 @@ use Rattle.hg_base.specs.Lists.{IsIn}
 use Rattle.edge_laws.specs.Placed.{placed}
 use Rattle.node_region.specs.Pool.{count, IsCovered, IsNextTo}
 use Rattle.border_climb.specs.Stands.{PartState, Stands}
-use Rattle.border_climb.specs.Parts.{IsLot, CanJoin, listed}
+use Rattle.border_climb.specs.Parts.{IsLot, CanJoin, as_listed}
 use Rattle.hg_base.specs.declared.graph.PlacedEdge.{PlacedEdge}
 use Rattle.tile_plan.specs.Plan.{TilePlan, IsPlan, IsPlaceOf, tile_count, part_count, left, right, first_place, end_place, first_tile, tiles_of, lot_edges, edges_at, room_tiles, start, part}
 use Rattle.tile_plan.specs.Laws.{HasHalves, JoinsHalves, IsSomewhere, IsTile, HasEdges, Crosses}
@@ -49,20 +49,20 @@ in_placed (f ∷ s) e (inl same) = (f, (inl refl, same))
 in_placed (f ∷ s) e (inr later) = let r = in_placed s e later in (r.0, (inr r.1.0, r.1.1))
 
 -- placed edges have the ranks of those that they are pictures of
-in_listed : (b : EdgeList) (f : ListedEdge) → IsIn f (map listed (map placed b)) → (g : ListedEdge) × (IsIn g b × (g.rank ≡ f.rank))
+in_listed : (b : EdgeList) (f : ListedEdge) → IsIn f (map as_listed (map placed b)) → (g : ListedEdge) × (IsIn g b × (g.rank ≡ f.rank))
 in_listed [] f h = absurd h
 in_listed (e ∷ b) f (inl same) = (e, (inl refl, ap (λ (x : ListedEdge). x.rank) same))
 in_listed (e ∷ b) f (inr later) = let r = in_listed b f later in (r.0, (inr r.1.0, r.1.1))
 
-apart_listed : (b : EdgeList) → AreApart b → AreApart (map listed (map placed b))
+apart_listed : (b : EdgeList) → AreApart b → AreApart (map as_listed (map placed b))
 apart_listed [] a = tt
 apart_listed (e ∷ b) a = ((λ f h same. (let g = in_listed b f h in a.0 g.0 g.1.0 (same ∙ sym g.1.1))), apart_listed b a.1)
 
-apart_after : (x b : EdgeList) → AreApart (x ++ b) → AreApart (x ++ map listed (map placed b))
+apart_after : (x b : EdgeList) → AreApart (x ++ b) → AreApart (x ++ map as_listed (map placed b))
 apart_after [] b a = apart_listed b a
-apart_after (e ∷ x) b a = ((λ f h same. by f same (IsIn-append_back f x (map listed (map placed b)) h)), apart_after x b a.1)
+apart_after (e ∷ x) b a = ((λ f h same. by f same (IsIn-append_back f x (map as_listed (map placed b)) h)), apart_after x b a.1)
   where
-    by : (f : ListedEdge) → e.rank ≡ f.rank → IsIn f x ⊎ IsIn f (map listed (map placed b)) → ⊥
+    by : (f : ListedEdge) → e.rank ≡ f.rank → IsIn f x ⊎ IsIn f (map as_listed (map placed b)) → ⊥
     by f same (inl i) = a.0 f (IsIn-append f x b (inl i)) same
     by f same (inr j) = let g = in_listed b f j in a.0 g.0 (IsIn-append g.0 x b (inr g.1.0)) (same ∙ sym g.1.1)
 

@@ -77,8 +77,8 @@ abbrev pub split_right : View → View
 split_right v = record v { share = 1; seen = 0; number = v.share - 1 }
 
 -- the view of two seats that are joined, and what is left over
-abbrev pub joined : View → View → View
-joined u v = record u { share = u.share + v.share; seen = max u.seen v.seen }
+abbrev pub joined_seats : View → View → View
+joined_seats u v = record u { share = u.share + v.share; seen = max u.seen v.seen }
 
 abbrev pub left_over : View
 left_over = first_view no_plan 0

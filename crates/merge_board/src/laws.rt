@@ -10,7 +10,7 @@ ghost use Rattle.tile_plan.specs.Plan.{IsPlan, tile_count};
 ghost use Rattle.border_climb.specs.Stands.{PartState};
 ghost use Rattle.merge_board.specs.Fits.{Fits};
 ghost use Rattle.merge_board.specs.Board.{IsPart, IsStatus, HasOneState, Shows, door, toll};
-ghost use Rattle.merge_board.specs.Seats.{split_left, split_right, joined, left_over};
+ghost use Rattle.merge_board.specs.Seats.{split_left, split_right, joined_seats, left_over};
 ghost use Rattle.merge_board.specs.RuleOfKey.{rule_of, first_of};
 ghost use Rattle.merge_board.specs.Opening.{AreOpened, KnowsNoDraw};
 ghost use Rattle.merge_board.specs.Exchanges.{IsOut, AreOut, SlotState, exchanged, with_slot};
@@ -47,7 +47,7 @@ pub fn arrivals_keep_the_rule()
 pub fn seats_keep_the_rule()
     ensures split { (key : Key) (id : ℕ) (v : View) → v.hand ≡ None → v.missed ≡ false → 2 ≤ v.share → Splits (rule_of key) id v (split_left v) (split_right v) }
     ensures join { (key : Key) (id other : ℕ) (v u : View) → v.hand ≡ None → v.missed ≡ true → u.hand ≡ None → u.missed ≡ true → 1 ≤ v.share
-        → Joins (rule_of key) id v other u (joined v u) left_over }
+        → Joins (rule_of key) id v other u (joined_seats v u) left_over }
 {}
 
 /// At every moment each part is in exactly one state: it is unborn, in exactly one seat's hand, at home or spent, and no

@@ -1,6 +1,6 @@
 ghost use Rattle.merge_board.specs.RuleOfKey.{rule_of, first_of};
 ghost use Rattle.merge_board.specs.Steps.{Draws, Arrives};
-ghost use Rattle.merge_board.specs.Seats.{split_left, split_right, joined, left_over};
+ghost use Rattle.merge_board.specs.Seats.{split_left, split_right, joined_seats, left_over};
 
 use crate::view::{Key, View};
 use atomic_table::{Join, Play, Split, TableRule};
@@ -40,7 +40,7 @@ impl Split<View> for OneWorker {
 pub(crate) struct AllWorkers;
 
 impl Join<View> for AllWorkers {
-    ghost both = { joined };
+    ghost both = { joined_seats };
 
     ghost spent = { left_over };
 }

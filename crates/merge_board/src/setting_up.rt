@@ -2,7 +2,7 @@ ghost use Rattle.std.specs.Prelude.{◌≡◌, ◌+◌, ◌<◌, ◌≤◌, [], 
 ghost use Rattle.std.specs.List.{range_with_len};
 ghost use Rattle.merge_board.specs.Opening.{IsUndrawn};
 ghost use Rattle.merge_board.specs.Seats.{AreAllSeats, IsReady, IsSeatOf, first_view, fresh_seats, split_left, split_right};
-ghost use Rattle.merge_board.specs.Serving.{numbers};
+ghost use Rattle.merge_board.specs.Serving.{seat_numbers};
 
 use crate::board::Board;
 use crate::rule::OneWorker;
@@ -27,7 +27,7 @@ impl Board {
         ensures workers { IfOk result (λ made. made.0.workers ≡ workers) }
         ensures seats { IfOk result (λ made. AreAllSeats made.1 made.0) }
         ensures ready { IfOk result (λ made. All IsReady made.1) }
-        ensures numbers { IfOk result (λ made. numbers made.1 ≡ reverse (range_with_len 0 workers)) }
+        ensures numbers { IfOk result (λ made. seat_numbers made.1 ≡ reverse (range_with_len 0 workers)) }
         ensures unseen { IfOk result (λ made. All (λ seat. seat.view.seen ≡ 0) made.1) }
         ensures undrawn { IfOk result (λ made. IsUndrawn made.0 made.1) }
     {

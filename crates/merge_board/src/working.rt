@@ -1,7 +1,7 @@
 ghost use Rattle.std.specs.Thread.{IsSync};
 ghost use Rattle.std.specs.Prelude.{◌≡◌, All};
 ghost use Rattle.merge_board.specs.Seats.{IsReady, IsDone, AreAllSeats};
-ghost use Rattle.merge_board.specs.Serving.{AreReady, AreServed, numbers};
+ghost use Rattle.merge_board.specs.Serving.{AreReady, AreServed, seat_numbers};
 
 use crate::board::Board;
 use crate::seat::Seat;
@@ -28,7 +28,7 @@ pub fn hierarchy<G: Gate>(
     requires ready { All IsReady seats.old }
     ensures all { AreAllSeats seats.new board.now }
     ensures done { All IsDone seats.new }
-    ensures numbers { numbers seats.new ≡ numbers seats.old }
+    ensures numbers { seat_numbers seats.new ≡ seat_numbers seats.old }
 {
     serve_all(rt, board, plan, gate, seats.list.as_mut_slice());
 }

@@ -8,7 +8,7 @@ use Rattle.node_region.specs.declared.chunk.At.{At}
 use Rattle.node_region.specs.declared.chunk.Slot.{Slot}
 use Rattle.node_region.specs.declared.chunk.Place.{Place}
 use Rattle.std.proofs.lemmas.List.FromFn.{map-range_with_len_more, length-map-range_with_len}
-use Rattle.node_region.specs.Tables.{slots_of, places_of, start_of, AreInRow, IsAt, number_at, fresh_slot, fresh_slots}
+use Rattle.node_region.specs.Tables.{slots_of, places_of, start_of, AreInRow, IsAt, entry_number, fresh_slot, fresh_slots}
 
 -- an element of one piece is replaced: so it is in the pieces put end to end
 pub set-flat_map : {X A : Type 0} (f : X → List A) (xs : List X) (i j : ℕ) (y e : X) (a : A) → i < length xs → j < length (f (get_or xs i e))
@@ -85,7 +85,7 @@ at-within chunks at is c = omega (arith, is.index, start-more chunks at.chunk c 
 
 -- what stands in a table stands among all
 pub slot-read : (chunks : List Chunk) (at : At) → IsAt chunks at → (c : Chunk) (s : Slot) → c ≡ get_or chunks at.chunk c → s ≡ get_or c.slots.items at.index s
-    → s ≡ get_or (slots_of chunks) (number_at chunks at) s
+    → s ≡ get_or (slots_of chunks) (entry_number chunks at) s
 slot-read chunks at is c s table entry =
     let there = get_or-flat_map (λ x. x.slots.items) chunks at.chunk at.index c s is.chunk (at-within chunks at is c) in
     entry ∙ ap (λ (x : Chunk). get_or x.slots.items at.index s) table ∙ sym there
@@ -94,20 +94,20 @@ pub place-within : (first : ℕ) (chunks : List Chunk) → AreInRow first chunks
 place-within first chunks row at is c = omega (arith, at-within chunks at is c, row-places first chunks row at.chunk c is.chunk)
 
 pub place-read : (first : ℕ) (chunks : List Chunk) → AreInRow first chunks → (at : At) → IsAt chunks at → (c : Chunk) (p : Place) → c ≡ get_or chunks at.chunk c → p ≡ get_or c.places.items at.index p
-    → p ≡ get_or (places_of chunks) (number_at chunks at) p
+    → p ≡ get_or (places_of chunks) (entry_number chunks at) p
 place-read first chunks row at is c p table entry =
     let there = get_or-flat_map (λ x. x.places.items) chunks at.chunk at.index c p is.chunk (place-within first chunks row at is c) in
     entry ∙ ap (λ (x : Chunk). get_or x.places.items at.index p) table ∙ sym (rw (places-before first chunks row at.chunk) at there)
 
 -- a write into a table is a write among all
 pub slot-written : (chunks : List Chunk) (at : At) → IsAt chunks at → (c y : Chunk) (s : Slot) → c ≡ get_or chunks at.chunk c → y.slots.items ≡ set c.slots.items at.index s
-    → slots_of (set chunks at.chunk y) ≡ set (slots_of chunks) (number_at chunks at) s
+    → slots_of (set chunks at.chunk y) ≡ set (slots_of chunks) (entry_number chunks at) s
 slot-written chunks at is c y s table written =
     set-flat_map (λ x. x.slots.items) chunks at.chunk at.index y c s is.chunk (at-within chunks at is c)
     (written ∙ ap (λ (x : Chunk). set x.slots.items at.index s) table)
 
 pub place-written : (first : ℕ) (chunks : List Chunk) → AreInRow first chunks → (at : At) → IsAt chunks at → (c y : Chunk) (p : Place) → c ≡ get_or chunks at.chunk c → y.places.items ≡ set c.places.items at.index p
-    → places_of (set chunks at.chunk y) ≡ set (places_of chunks) (number_at chunks at) p
+    → places_of (set chunks at.chunk y) ≡ set (places_of chunks) (entry_number chunks at) p
 place-written first chunks row at is c y p table written =
     let there = set-flat_map (λ x. x.places.items) chunks at.chunk at.index y c p is.chunk (place-within first chunks row at is c)
     (written ∙ ap (λ (x : Chunk). set x.places.items at.index p) table) in

@@ -39,8 +39,8 @@ pub record IsAt (chunks : List Chunk) (at : At) : Type 0 where
   pub index : start_of chunks at.chunk + at.index < start_of chunks (at.chunk + 1)
 
 -- the place of an entry among all
-abbrev pub number_at : List Chunk → At → ℕ
-number_at chunks at = start_of chunks at.chunk + at.index
+abbrev pub entry_number : List Chunk → At → ℕ
+entry_number chunks at = start_of chunks at.chunk + at.index
 
 -- what stands where nothing is noted
 abbrev pub no_hint : Hint

@@ -1,5 +1,5 @@
 ghost use Rattle.std.specs.Prelude.{◌≡◌, ℕ, ◌+◌, ◌-◌, ◌<◌, ◌≤◌, ◌++◌, length, get_or, set, replicate, map, vec_capacity, IfOk, IsTrue, ◌↔◌};
-ghost use Rattle.node_region.specs.Tables.{slots_of, places_of, start_of, number_at, IsAt, AreInRow, AreInRow-prop, fresh_slots, fresh_place};
+ghost use Rattle.node_region.specs.Tables.{slots_of, places_of, start_of, entry_number, IsAt, AreInRow, AreInRow-prop, fresh_slots, fresh_place};
 
 use crate::chunk::{At, Chunk, FreeList, NO_HINT, Place, Slot};
 use std::alloc::{AllocError, Global};
@@ -74,9 +74,9 @@ impl Tables {
         requires from { self.now.first ≤ id }
         requires below { id < self.now.first + self.now.count }
         ensures at { IsAt self.now.chunks.items result }
-        ensures number { self.now.first + number_at self.now.chunks.items result ≡ id }
-        ensures within { number_at self.now.chunks.items result < length (slots_of self.now.chunks.items) }
-        ensures within_places { number_at self.now.chunks.items result < length (places_of self.now.chunks.items) }
+        ensures number { self.now.first + entry_number self.now.chunks.items result ≡ id }
+        ensures within { entry_number self.now.chunks.items result < length (slots_of self.now.chunks.items) }
+        ensures within_places { entry_number self.now.chunks.items result < length (places_of self.now.chunks.items) }
     {
         let distance = id - self.first;
         if self.chunks.len() == 1 {
@@ -104,9 +104,9 @@ impl Tables {
         requires from { self.now.first ≤ id }
         requires below { id < self.now.first + self.now.count }
         ensures at { IsAt self.now.chunks.items result }
-        ensures number { self.now.first + number_at self.now.chunks.items result ≡ id }
-        ensures within { number_at self.now.chunks.items result < length (slots_of self.now.chunks.items) }
-        ensures within_places { number_at self.now.chunks.items result < length (places_of self.now.chunks.items) }
+        ensures number { self.now.first + entry_number self.now.chunks.items result ≡ id }
+        ensures within { entry_number self.now.chunks.items result < length (slots_of self.now.chunks.items) }
+        ensures within_places { entry_number self.now.chunks.items result < length (places_of self.now.chunks.items) }
     {
         let mut low = 0;
         let mut high = self.chunks.len();
@@ -128,7 +128,7 @@ impl Tables {
     #[inline(always)]
     pub(crate) fn slot(&self, at: At) -> Slot
         requires { IsAt self.now.chunks.items at }
-        ensures { result ≡ get_or (slots_of self.now.chunks.items) (number_at self.now.chunks.items at) result }
+        ensures { result ≡ get_or (slots_of self.now.chunks.items) (entry_number self.now.chunks.items at) result }
     {
         self.chunks[at.chunk].slots[at.index]
     }
@@ -137,7 +137,7 @@ impl Tables {
     #[inline(always)]
     pub(crate) fn place(&self, at: At) -> Place
         requires { IsAt self.now.chunks.items at }
-        ensures { result ≡ get_or (places_of self.now.chunks.items) (number_at self.now.chunks.items at) result }
+        ensures { result ≡ get_or (places_of self.now.chunks.items) (entry_number self.now.chunks.items at) result }
     {
         self.chunks[at.chunk].places[at.index]
     }
@@ -146,7 +146,7 @@ impl Tables {
     #[inline(always)]
     pub(crate) fn set_slot(&mut self, at: At, slot: Slot)
         requires { IsAt self.old.chunks.items at }
-        ensures slots { slots_of self.new.chunks.items ≡ set (slots_of self.old.chunks.items) (number_at self.old.chunks.items at) slot }
+        ensures slots { slots_of self.new.chunks.items ≡ set (slots_of self.old.chunks.items) (entry_number self.old.chunks.items at) slot }
         ensures places { places_of self.new.chunks.items ≡ places_of self.old.chunks.items }
         ensures kept { KeepsTables self.old self.new }
     {
@@ -158,7 +158,7 @@ impl Tables {
     #[inline(always)]
     pub(crate) fn set_place(&mut self, at: At, place: Place)
         requires { IsAt self.old.chunks.items at }
-        ensures places { places_of self.new.chunks.items ≡ set (places_of self.old.chunks.items) (number_at self.old.chunks.items at) place }
+        ensures places { places_of self.new.chunks.items ≡ set (places_of self.old.chunks.items) (entry_number self.old.chunks.items at) place }
         ensures slots { slots_of self.new.chunks.items ≡ slots_of self.old.chunks.items }
         ensures kept { KeepsTables self.old self.new }
     {

@@ -6,7 +6,7 @@ use Rattle.edge_laws.specs.Placed.{placed}
 use Rattle.hg_base.specs.declared.graph.PlacedEdge.{PlacedEdge}
 use Rattle.node_region.specs.Pool.{CellPool, count, IsCovered}
 use Rattle.border_climb.specs.Stands.{PartState, Stands}
-use Rattle.border_climb.specs.Parts.{IsLot, CanJoin, listed}
+use Rattle.border_climb.specs.Parts.{IsLot, CanJoin, as_listed}
 use Rattle.border_climb.specs.Parts as parts
 use Rattle.tile_plan.specs.Plan.{TilePlan, IsPlan, IsPlaceOf, tile_count, part_count, left, right, first_place, end_place, lot_edges, edges_at}
 use Rattle.tile_plan.specs.Laws.{IsTile, HasEdges, Crosses}
@@ -19,7 +19,7 @@ placed-back [] x i = absurd i
 placed-back (e ∷ s) x (inl same) = (e, (inl refl, same))
 placed-back (e ∷ s) x (inr later) = let b = placed-back s x later in (b.0, (inr b.1.0, b.1.1))
 
-listed-back : (x s : EdgeList) (f : ListedEdge) → IsIn f (x ++ map listed (map placed s)) → (g : ListedEdge) × (IsIn g (x ++ s) × (g.rank ≡ f.rank))
+listed-back : (x s : EdgeList) (f : ListedEdge) → IsIn f (x ++ map as_listed (map placed s)) → (g : ListedEdge) × (IsIn g (x ++ s) × (g.rank ≡ f.rank))
 listed-back [] [] f i = absurd i
 listed-back [] (e ∷ s) f (inl same) = (e, (inl refl, ap (λ (z : ListedEdge). z.rank) same))
 listed-back [] (e ∷ s) f (inr later) = let b = listed-back [] s f later in (b.0, (inr b.1.0, b.1.1))
@@ -27,7 +27,7 @@ listed-back (y ∷ x) s f (inl same) = (y, (inl refl, ap (λ (z : ListedEdge). z
 listed-back (y ∷ x) s f (inr later) = let b = listed-back x s f later in (b.0, (inr b.1.0, b.1.1))
 
 -- different ranks stay so
-apart-listed : (x s : EdgeList) → AreApart (x ++ s) → AreApart (x ++ map listed (map placed s))
+apart-listed : (x s : EdgeList) → AreApart (x ++ s) → AreApart (x ++ map as_listed (map placed s))
 apart-listed [] [] h = tt
 apart-listed [] (e ∷ s) h = (λ f i r. (let b = listed-back [] s f i in h.0 b.0 b.1.0 (r ∙ sym b.1.1)), apart-listed [] s h.1)
 apart-listed (y ∷ x) s h = (λ f i r. (let b = listed-back x s f i in h.0 b.0 b.1.0 (r ∙ sym b.1.1)), apart-listed x s h.1)

@@ -156,7 +156,6 @@ fn tree_of_lists(order: &Order, plan: &Plan, part: &Part, lists: TreeLists) -> T
     ensures fronts { IsFrontTree result (vertices plan.now) plan.now.edges }
 {
     let n = plan.n();
-    // That the graph keeps to its limits.
-    let _ = order.len();
+    order.keeps_its_rules();
     Tree::new(n, lists.parents, lists.altitudes, lists.makers)
 }

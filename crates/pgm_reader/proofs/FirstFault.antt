@@ -12,7 +12,7 @@ use Rattle.input_tokens.proofs.PlacedFaults.{FaultsAt, at-ok, at-fault, at-then,
 use Rattle.input_tokens.specs.declared.token.Token.{Token}
 use Rattle.pgm_reader.specs.Raster.{Raster}
 use Rattle.pgm_reader.specs.Pgm.{CutToken, cut, token_cut_at, gap, width, height, greatest, samples, pixels, from_width, from_height, from_greatest, picture}
-use Rattle.pgm_reader.specs.FirstFault.{where_right, right_tokens, greatest_tokens, height_tokens, header, IsBeside, PartsNone, missing, IsFirst}
+use Rattle.pgm_reader.specs.FirstFault.{where_right, right_tokens, greatest_tokens, height_tokens, header, IsBeside, PartsNone, ended_early, IsFirst}
 use Rattle.pgm_reader.proofs.Samples.{samples-one, samples-two, judged}
 use Rattle.pgm_reader.proofs.Endings.{sample-cut}
 use Rattle.pgm_reader.proofs.CutTokens.{with_rest, is-cut}
@@ -238,19 +238,19 @@ same-fault x y e = cc
 -- a fault that isn't that the bytes end is one whatever follows
 follows : (bytes rest : List ℕ) (f : InputFault) → picture bytes ≡ Err f → f.kind ≢ Truncated → PartsNone (length bytes) (bytes ++ rest) → picture (bytes ++ rest) ≡ Err f
 follows bytes rest f e kind apart = elim (goes-picture bytes rest) [
-  | inl ends ↦ absurd (kind (ap (λ (g : InputFault). g.kind) (same-fault f (missing (length bytes)) (sym e ∙ ends))))
+  | inl ends ↦ absurd (kind (ap (λ (g : InputFault). g.kind) (same-fault f (ended_early (length bytes)) (sym e ∙ ends))))
   | inr (inl x) ↦ x.kept apart ∙ sym x.here ∙ e
   | inr (inr x) ↦ let no : Ok x.0 ≡ Err f = sym x.1 ∙ e in cc
 ]
 
 -- a fault of a cut is that it ends, or it is the fault of the whole
 of-cut : (bytes : List ℕ) (place : ℕ) (g : InputFault) → place ≤ length bytes → PartsNone place bytes → picture (take place bytes) ≡ Err g
-    → (g ≡ missing place) ⊎ ((picture bytes ≡ Err g) × (g.at < place))
+    → (g ≡ ended_early place) ⊎ ((picture bytes ≡ Err g) × (g.at < place))
 of-cut bytes place g h apart e =
     let long = length-take-le place bytes h in
     let whole = take-append-drop place bytes in
     elim (rw (long, whole) at (goes-picture (take place bytes) (drop place bytes))) [
-      | inl ends ↦ inl (same-fault g (missing place) (sym e ∙ ends))
+      | inl ends ↦ inl (same-fault g (ended_early place) (sym e ∙ ends))
       | inr (inl x) ↦
           let same = same-fault x.found g (sym x.here ∙ e) in
           inr (x.kept apart ∙ sym x.here ∙ e, subst (λ (f : InputFault). f.at < place) same x.below)
@@ -268,9 +268,9 @@ kept bytes place f apart e before = elim (cases_Bool (nat_le place (length bytes
 ]
 
 -- a fault is that the bytes end, or it is found before
-pub first-fault : (bytes : List ℕ) (f : InputFault) → picture bytes ≡ Err f → (f ≡ missing (length bytes)) ⊎ IsFirst bytes f
+pub first-fault : (bytes : List ℕ) (f : InputFault) → picture bytes ≡ Err f → (f ≡ ended_early (length bytes)) ⊎ IsFirst bytes f
 first-fault bytes f e = elim (goes-picture bytes []) [
-  | inl ends ↦ inl (same-fault f (missing (length bytes)) (sym e ∙ ends))
+  | inl ends ↦ inl (same-fault f (ended_early (length bytes)) (sym e ∙ ends))
   | inr (inl x) ↦
       let same = same-fault x.found f (sym x.here ∙ e) in
       let kind : f.kind ≢ Truncated = subst (λ (g : InputFault). g.kind ≢ Truncated) same x.kind in

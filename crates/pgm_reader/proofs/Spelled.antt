@@ -10,7 +10,8 @@ use Rattle.input_tokens.specs.declared.token.Token.TheVariants.{Number}
 use Rattle.pgm_reader.specs.Raster.{Raster, IsRaster}
 use Rattle.pgm_reader.specs.Pgm.{CutToken, width, height, greatest, samples, pixels, from_width, from_height, from_greatest, picture}
 use Rattle.input_tokens.specs.Rules.{number_read}
-use Rattle.pgm_reader.specs.Spelling.{sample_bytes, Spells}
+use Rattle.hg_base.specs.Samples.{sample_bytes}
+use Rattle.pgm_reader.specs.Spelling.{Spells}
 use Rattle.pgm_reader.proofs.Samples.{samples-one, samples-two}
 
 not-above : (max s : ℕ) → s ≤ max → nat_lt max s ≡ false

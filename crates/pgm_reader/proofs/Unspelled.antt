@@ -12,7 +12,8 @@ use Rattle.input_tokens.specs.declared.token.Token.{Token}
 use Rattle.input_tokens.specs.declared.token.Token.TheVariants.{Graph, GraphWithAreas, Number, Other}
 use Rattle.pgm_reader.specs.Raster.{Raster}
 use Rattle.pgm_reader.specs.Pgm.{CutToken, cut, token_cut_at, width, height, greatest, samples, pixels, from_width, from_height, from_greatest, picture}
-use Rattle.pgm_reader.specs.Spelling.{sample_bytes, Spells}
+use Rattle.hg_base.specs.Samples.{sample_bytes}
+use Rattle.pgm_reader.specs.Spelling.{Spells}
 use Rattle.pgm_reader.proofs.Samples.{samples-one, samples-two, judged}
 
 ok-split : {A B : Type 0} (r : Result A InputFault) (f : A → Result B InputFault) (y : B) → (r >>= f) ≡ Ok y → (x : A) × (r ≡ Ok x) × (f x ≡ Ok y)

@@ -34,12 +34,12 @@ abbrev pub PartsNone : ℕ → List ℕ → Type 0
 PartsNone place bytes = All (IsBeside place) (header bytes)
 
 -- more is wanted where an input of this length ends
-abbrev pub missing : ℕ → InputFault
-missing end = record { kind = Truncated; at = end; value = 0 }
+abbrev pub ended_early : ℕ → InputFault
+ended_early end = record { kind = Truncated; at = end; value = 0 }
 
 -- the fault is found before the bytes end, whatever follows them; and no cut has another fault but that it ends
 pub record IsFirst (bytes : List ℕ) (f : InputFault) : Type 0 where
   pub below : f.at < length bytes
   pub not_missing : f.kind ≢ Truncated
   pub whatever_follows : (rest : List ℕ) → PartsNone (length bytes) (bytes ++ rest) → picture (bytes ++ rest) ≡ Err f
-  pub of_cuts : (place : ℕ) (g : InputFault) → place < length bytes → PartsNone place bytes → picture (take place bytes) ≡ Err g → (g ≡ f) ⊎ (g ≡ missing place)
+  pub of_cuts : (place : ℕ) (g : InputFault) → place < length bytes → PartsNone place bytes → picture (take place bytes) ≡ Err g → (g ≡ f) ⊎ (g ≡ ended_early place)

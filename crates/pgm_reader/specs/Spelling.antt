@@ -1,13 +1,10 @@
 -- How a picture is spelled: three numbers, a byte of white space, and the bytes of the samples.
-use Rattle.std.specs.Prelude.{◌≡◌, ℕ, ◌≤◌, ◌/◌, ◌%◌, true, false, nat_lt, if◌then◌else◌, List, [], ◌∷◌, drop, Some}
+use Rattle.std.specs.Prelude.{◌≡◌, ℕ, ◌≤◌, true, false, List, ◌∷◌, drop, Some}
 use Rattle.std.specs.List.{flat_map}
+use Rattle.hg_base.specs.Samples.{sample_bytes}
 use Rattle.input_tokens.specs.declared.token.Token.TheVariants.{Number}
 use Rattle.pgm_reader.specs.Raster.{Raster, IsRaster}
 use Rattle.pgm_reader.specs.Pgm.{CutToken, cut}
-
--- the bytes of a sample: one where the greatest value is below 256, else two, with the most significant first
-abbrev pub sample_bytes : ℕ → ℕ → List ℕ
-sample_bytes max s = if nat_lt max 256 then s ∷ [] else s / 256 ∷ s % 256 ∷ []
 
 -- behind `P5` the bytes spell the picture by these tokens
 pub record Spells (bytes : List ℕ) (r : Raster) (width height greatest : CutToken) (space : ℕ) : Type 0 where

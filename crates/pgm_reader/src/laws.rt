@@ -3,7 +3,7 @@ ghost use Rattle.hg_base.specs.declared.fault.InputFault.{InputFault};
 ghost use Rattle.pgm_reader.specs.Raster.{Raster};
 ghost use Rattle.pgm_reader.specs.Pgm.{CutToken, cut, picture};
 ghost use Rattle.pgm_reader.specs.Spelling.{Spells};
-ghost use Rattle.pgm_reader.specs.FirstFault.{IsFirst, PartsNone, missing};
+ghost use Rattle.pgm_reader.specs.FirstFault.{IsFirst, PartsNone, ended_early};
 ghost use Rattle.pgm_reader.specs.HeaderTokens.{IsFirstOf};
 ghost use Rattle.input_tokens.specs.Tokens.{blanked, tokens_from};
 
@@ -20,7 +20,7 @@ pub fn pictures_are_spellings()
 /// is wanted. And a fault that is found in a cut is the fault of the whole. A cut parts no token of the header: a
 /// token that is cut is another token.
 pub fn picture_faults_are_the_first()
-    ensures found { (bytes : List ℕ) (f : InputFault) → picture bytes ≡ Err f → (f ≡ missing (length bytes)) ⊎ IsFirst bytes f }
+    ensures found { (bytes : List ℕ) (f : InputFault) → picture bytes ≡ Err f → (f ≡ ended_early (length bytes)) ⊎ IsFirst bytes f }
     ensures kept { (bytes : List ℕ) (place : ℕ) (f : InputFault) → PartsNone place bytes → picture (take place bytes) ≡ Err f → f.at < place → picture bytes ≡ Err f }
 {}
 

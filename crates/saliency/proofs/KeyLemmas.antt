@@ -7,7 +7,7 @@ use Rattle.std.proofs.lemmas.List.{get_or_default, get_or_push, get_or_append_le
 use Rattle.edge_laws.specs.Edges.{EdgeList, AreApart, AreWithin, joined}
 use Rattle.hg_base.specs.Counting.{count_below}
 use Rattle.hg_base.specs.Labels.{Labelling, IsLabelling, labelling}
-use Rattle.hg_base.specs.Numbering.{is_head, same_key, key_label}
+use Rattle.hg_base.specs.Numbering.{is_class_head, same_key, key_label}
 use Rattle.edge_laws.specs.Saliency.{AreByWeight, at_most}
 use Rattle.tree_laws.specs.Tree.{ParentTree, altitude, tree_of}
 use Rattle.tree_laws.specs.Levels.{AltitudesRise, shares, IsTop, IsLevelTree}
@@ -48,7 +48,7 @@ shares-classing t level tops keys f rise a k =
 
 -- the labels by keys are those of the regions
 pub region-labels : (t : ParentTree) (level : ℕ) (tops : List ℕ) (keys : List (Option ℕ)) → IsWellFormed t → AltitudesRise t → AreTops t level tops → AreFirstKeys t.leaves tops keys →
-    AreLabels t.leaves (map (key_label keys) (range_with_len 0 t.leaves)) (count_below (is_head keys) t.leaves) (shares t level)
+    AreLabels t.leaves (map (key_label keys) (range_with_len 0 t.leaves)) (count_below (is_class_head keys) t.leaves) (shares t level)
 region-labels t level tops keys f rise a k =
     labels-by_keys keys t.leaves (λ i. get_or tops i 0) (shares t level) k.each (shares-classing t level tops keys f rise a k) (shares-keys t level tops keys f rise a k) f.some_leaf f.few_leaves
 
@@ -99,14 +99,14 @@ pub record AreRegions (t : ParentTree) (level : ℕ) (labels : Labelling) : Type
   pub classes : IsClassing t.leaves (shares t level)
 
 pub numbered-regions : (t : ParentTree) (level : ℕ) (tops : List ℕ) (keys : List (Option ℕ)) (labels : List ℕ) (count : ℕ) → IsWellFormed t → AltitudesRise t → AreTops t level tops → AreFirstKeys t.leaves tops keys →
-    labels ≡ map (key_label keys) (range_with_len 0 (length keys)) → count ≡ count_below (is_head keys) (length keys) → AreRegions t level (record { labels = labels; count = count })
+    labels ≡ map (key_label keys) (range_with_len 0 (length keys)) → count ≡ count_below (is_class_head keys) (length keys) → AreRegions t level (record { labels = labels; count = count })
 numbered-regions t level tops keys labels count f rise a k are many =
     let r = region-labels t level tops keys f rise a k in
     let long = k.one_each in
     let with_labels : List ℕ → Labelling = λ l. record { labels = l; count = count } in
     let with_count : ℕ → Labelling = λ m. record { labels = map (key_label keys) (range_with_len 0 t.leaves); count = m } in
     let e : record { labels = labels; count = count } ≡ labelling (shares t level) t.leaves =
-    ap with_labels (are ∙ ap (λ (n : ℕ). map (key_label keys) (range_with_len 0 n)) long) ∙ ap with_count (many ∙ ap (count_below (is_head keys)) long) ∙ r.result in record {
+    ap with_labels (are ∙ ap (λ (n : ℕ). map (key_label keys) (range_with_len 0 n)) long) ∙ ap with_count (many ∙ ap (count_below (is_class_head keys)) long) ∙ r.result in record {
       result = e;
       fit = subst IsLabelling (sym e) r.fit;
       classes = shares-classing t level tops keys f rise a k;
@@ -115,7 +115,7 @@ numbered-regions t level tops keys labels count f rise a k are many =
 -- the same of the slices that were handed over
 pub made-regions : (t : ParentTree) (level n : ℕ) (tops part : List ℕ) (keys slice : List (Option ℕ)) (labels : List ℕ) (count : ℕ) → IsWellFormed t → AltitudesRise t → AreTops t level tops →
     n ≡ t.leaves → part ≡ tops → slice ≡ keys → AreFirstKeys n part keys →
-    labels ≡ map (key_label slice) (range_with_len 0 (length slice)) → count ≡ count_below (is_head slice) (length slice) → AreRegions t level (record { labels = labels; count = count })
+    labels ≡ map (key_label slice) (range_with_len 0 (length slice)) → count ≡ count_below (is_class_head slice) (length slice) → AreRegions t level (record { labels = labels; count = count })
 made-regions t level n tops part keys slice labels count f rise a leaves whole same k are many =
     let keyed : AreFirstKeys t.leaves tops slice =
     subst (λ (ks : List (Option ℕ)). AreFirstKeys t.leaves tops ks) (sym same) (subst (λ (vs : List ℕ). AreFirstKeys t.leaves vs keys) whole (subst (λ (m : ℕ). AreFirstKeys m part keys) leaves k)) in

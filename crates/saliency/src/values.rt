@@ -96,8 +96,7 @@ fn fill(
     ensures lowest { AreLowestAltitudes graph.now tree.now values.new }
     ensures saliencies { tree.now ≡ graph_tree graph.now → values.new ≡ saliencies graph.now }
 {
-    // That the graph keeps to its limits.
-    let _ = graph.m();
+    graph.keeps_its_rules();
     par_for_each_mut(
         rt,
         values,

@@ -9,7 +9,7 @@ use Rattle.hg_base.proofs.Lists.{IsIn-kept}
 use Rattle.edge_laws.proofs.Sets.{same_test}
 use Rattle.tile_plan.specs.Merges.{MergeTree, Tile, Merge, half, IsCut, tiles, tile_at}
 use Rattle.tile_plan.specs.Sites.{is_lot_of, find}
-use Rattle.tile_plan.specs.Grids.{tiles_in, tree_in, part_in, lot_in, root_of}
+use Rattle.tile_plan.specs.Grids.{tiles_in, grid_tree, part_in, lot_in, root_of}
 use Rattle.tile_plan.specs.TiledPictures.{IsFrame, grid_in, home_in, vertices_in}
 use Rattle.std.proofs.lemmas.List.{length-map}
 use Rattle.tile_plan.specs.declared.site.Grid.{Grid}
@@ -19,7 +19,7 @@ use Rattle.tile_plan.specs.declared.frame.Frame.{Frame}
 use Rattle.edge_laws.specs.Rising.{IsRising}
 use Rattle.tile_plan.specs.Placing.{AreKeys, IsTable, start_by, place_by}
 use Rattle.tile_plan.specs.Plan.{TilePlan, IsPlan, IsEdgeAmong, grid_of, tile_count, part_count, vertices, home, start, place_of, part, lot_between_vertices, lot_edges}
-use Rattle.tile_plan.proofs.Laying.{tree_in-is, tree_in-tiles, grid-columns, grid-rows, vertex-column, vertex-row}
+use Rattle.tile_plan.proofs.Laying.{grid_tree-is, grid_tree-tiles, grid-columns, grid-rows, vertex-column, vertex-row}
 use Rattle.tile_plan.proofs.Counting.{start_by-agree, place_by-agree, start-mono, start-le}
 use Rattle.tile_plan.proofs.Growing.{IsTable-agree}
 use Rattle.tile_plan.proofs.LotNumbers.{lot-only, lot-found}
@@ -45,8 +45,8 @@ tile_at-below c r (Merge false k x y) column row h hc hr =
 pub home-below : (f : Frame) (v : ℕ) → IsFrame f → v < vertices_in f → home_in f v < tiles_in (grid_in f)
 unfolding home_in
 home-below f v h l =
-    let count = tree_in-tiles (grid_in f) (grid-columns f h) (grid-rows f h) in
-    let b = tile_at-below (grid_in f).columns (grid_in f).rows (tree_in (grid_in f)) (v % f.width / f.side) (v / f.width / f.side) (tree_in-is (grid_in f) (grid-columns f h) (grid-rows f h)) (vertex-column f v h) (vertex-row f v h l) in
+    let count = grid_tree-tiles (grid_in f) (grid-columns f h) (grid-rows f h) in
+    let b = tile_at-below (grid_in f).columns (grid_in f).rows (grid_tree (grid_in f)) (v % f.width / f.side) (v / f.width / f.side) (grid_tree-is (grid_in f) (grid-columns f h) (grid-rows f h)) (vertex-column f v h) (vertex-row f v h l) in
     omega (arith, count, b)
 
 -- an edge is in the lot of a part exactly where the descent finds the part
@@ -55,7 +55,7 @@ unfolding lot_in part part_in
 lot-test p i a b h l ha hb =
     let count = plan-tiles p h in
     let n : ℕ = tile_count p in
-    let t : MergeTree = tree_in (grid_of p) in
+    let t : MergeTree = grid_tree (grid_of p) in
     let fits : 0 + tiles t ≤ n = omega (arith, count) in
     let found = lot-found n t (root_of n) a b fits (record { low = omega arith; high = omega (arith, count) }) (record { low = omega arith; high = omega (arith, count) }) in
     same_test _ _

@@ -2,7 +2,7 @@
 use Rattle.std.proofs.Common.{◌≡◌, ℕ, ◌+◌, ◌-◌, ◌*◌, ◌≤◌, true, false, refl, sym, ◌∙◌, ap, arith}
 use Rattle.tile_plan.specs.Merges.{MergeTree, Tile, Merge, half, IsCut, tiles, merges}
 use Rattle.tile_plan.specs.declared.site.Site.{Site}
-use Rattle.tile_plan.specs.Sites.{number}
+use Rattle.tile_plan.specs.Sites.{part_number}
 
 -- the tiles of two halves of a rectangle
 pub columns_sum : (c k r : ℕ) → k ≤ c → k * r + (c - k) * r ≡ c * r
@@ -45,10 +45,10 @@ tree_of_one c r Tile h one = refl
 tree_of_one c r (Merge by k x y) h one = absurd (let a = tiles-some x in let b = tiles-some y in omega (arith, a, b))
 
 -- the number of a part by the tiles in it
-pub number-one : (n c r : ℕ) (t : MergeTree) (s : Site) → IsCut c r t → tiles t ≡ 1 → s.first_tile ≡ number n t s
+pub number-one : (n c r : ℕ) (t : MergeTree) (s : Site) → IsCut c r t → tiles t ≡ 1 → s.first_tile ≡ part_number n t s
 number-one n c r Tile s h one = refl
 number-one n c r (Merge by k x y) s h one = absurd (let a = tiles-some x in let b = tiles-some y in omega (arith, a, b))
 
-pub number-merge : (n count : ℕ) (t : MergeTree) (s : Site) → count ≡ tiles t → (count ≡ 1 → ⊥) → n + s.first_merge + count - 2 ≡ number n t s
+pub number-merge : (n count : ℕ) (t : MergeTree) (s : Site) → count ≡ tiles t → (count ≡ 1 → ⊥) → n + s.first_merge + count - 2 ≡ part_number n t s
 number-merge n count Tile s e more = absurd (more e)
 number-merge n count (Merge by k x y) s e more = let a = tiles-merges x in let b = tiles-merges y in omega (arith, a, b)

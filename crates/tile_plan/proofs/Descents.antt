@@ -4,8 +4,8 @@ use Rattle.std.specs.Prelude.{◌==◌, nat_lt, nat_le}
 use Rattle.std.proofs.lemmas.Bool.{eq-eqb}
 use Rattle.std.proofs.lemmas.Bool.Decides.{nat_tests}
 use Rattle.tile_plan.specs.Merges.{MergeTree, Tile, Merge, IsCut, tiles, merges}
-use Rattle.tile_plan.specs.Sites.{number, left_site, right_site, is_left, find}
-use Rattle.tile_plan.specs.Grids.{IsTreeOf, AreHalves, row_of_part, lot_number}
+use Rattle.tile_plan.specs.Sites.{part_number, left_site, right_site, is_left, find}
+use Rattle.tile_plan.specs.Grids.{IsGridTree, AreHalves, row_of_part, lot_number}
 use Rattle.tile_plan.specs.declared.site.Grid.{Grid}
 use Rattle.tile_plan.specs.declared.site.Site.{Site}
 use Rattle.tile_plan.specs.declared.site.Side.TheVariants as sides
@@ -51,12 +51,12 @@ find-one n c r k p t s h e one = rw (tree_of_one c r t h (sym e ∙ one), one) r
 pub record Halved (n own first second : ℕ) (a b : Grid) (s l r : Site) : Type 0 where
   pub left : l ≡ record { first_tile = s.first_tile; first_merge = s.first_merge; parent = own; side = sides.Left; room = s.room }
   pub right : r ≡ record { first_tile = s.first_tile + first; first_merge = s.first_merge + (first - 1); parent = own; side = sides.Right; room = second }
-  pub first_tiles : (x : MergeTree) → IsTreeOf a x → first ≡ tiles x
-  pub second_tiles : (y : MergeTree) → IsTreeOf b y → second ≡ tiles y
+  pub first_tiles : (x : MergeTree) → IsGridTree a x → first ≡ tiles x
+  pub second_tiles : (y : MergeTree) → IsGridTree b y → second ≡ tiles y
 
 -- the row of a merge itself
-pub find-own : (n own first second k p i j : ℕ) (t : MergeTree) (a b : Grid) (s l r : Site) → AreHalves t a b → own ≡ number n t s → Halved n own first second a b s l r → k ≡ tiles t → p ≡ own
-    → ((x : MergeTree) → IsTreeOf a x → i ≡ number n x l) → ((y : MergeTree) → IsTreeOf b y → j ≡ number n y r)
+pub find-own : (n own first second k p i j : ℕ) (t : MergeTree) (a b : Grid) (s l r : Site) → AreHalves t a b → own ≡ part_number n t s → Halved n own first second a b s l r → k ≡ tiles t → p ≡ own
+    → ((x : MergeTree) → IsGridTree a x → i ≡ part_number n x l) → ((y : MergeTree) → IsGridTree b y → j ≡ part_number n y r)
     → ◌≡◌ {A = Row} (record { site = s; tiles = k; left = i; right = j }) (row_of_part n (find n t s p))
 find-own n own first second k p i j Tile a b s l r halves e h count at li rj = absurd halves
 find-own n own first second k p i j (Merge by c x y) a b s l r halves e h count at li rj =
@@ -65,8 +65,8 @@ find-own n own first second k p i j (Merge by c x y) a b s l r halves e h count 
     rw (eq-eqb p (n + s.first_merge + merges x + merges y) (at ∙ e), li x halves.0, rj y halves.1, el, er, count) refl
 
 -- the row of a part in the right half of a merge
-pub find-right : (n own first second p : ℕ) (t : MergeTree) (a b : Grid) (s l r : Site) (row : Row) → AreHalves t a b → own ≡ number n t s → Halved n own first second a b s l r → (p ≡ own → ⊥)
-    → ((x : MergeTree) → tiles x ≡ first → is_left n x s p ≡ false) → ((y : MergeTree) → IsTreeOf b y → row ≡ row_of_part n (find n y r p))
+pub find-right : (n own first second p : ℕ) (t : MergeTree) (a b : Grid) (s l r : Site) (row : Row) → AreHalves t a b → own ≡ part_number n t s → Halved n own first second a b s l r → (p ≡ own → ⊥)
+    → ((x : MergeTree) → tiles x ≡ first → is_left n x s p ≡ false) → ((y : MergeTree) → IsGridTree b y → row ≡ row_of_part n (find n y r p))
     → row ≡ row_of_part n (find n t s p)
 find-right n own first second p Tile a b s l r row halves e h off right_one found = absurd halves
 find-right n own first second p (Merge by c x y) a b s l r row halves e h off right_one found =
@@ -74,8 +74,8 @@ find-right n own first second p (Merge by c x y) a b s l r row halves e h off ri
     rw (eq-false p (n + s.first_merge + merges x + merges y) (λ k. off (k ∙ sym e)), right_one x (sym (h.first_tiles x halves.0)), ← er) (found y halves.1)
 
 -- an edge inside the right half of a merge is in a lot there
-pub lot-right : (n own first second i j lot : ℕ) (t : MergeTree) (a b : Grid) (s l r : Site) → AreHalves t a b → own ≡ number n t s → Halved n own first second a b s l r
-    → s.first_tile + first ≤ i → s.first_tile + first ≤ j → ((y : MergeTree) → IsTreeOf b y → lot ≡ lot_number n y r i j)
+pub lot-right : (n own first second i j lot : ℕ) (t : MergeTree) (a b : Grid) (s l r : Site) → AreHalves t a b → own ≡ part_number n t s → Halved n own first second a b s l r
+    → s.first_tile + first ≤ i → s.first_tile + first ≤ j → ((y : MergeTree) → IsGridTree b y → lot ≡ lot_number n y r i j)
     → lot ≡ lot_number n t s i j
 lot-right n own first second i j lot Tile a b s l r halves e h hi hj found = absurd halves
 lot-right n own first second i j lot (Merge by c x y) a b s l r halves e h hi hj found =
@@ -84,5 +84,5 @@ lot-right n own first second i j lot (Merge by c x y) a b s l r halves e h hi hj
     rw (lt-false i (s.first_tile + tiles x) (omega arith), le-true (s.first_tile + tiles x) i (omega arith), le-true (s.first_tile + tiles x) j (omega arith), ← er) (found y halves.1)
 
 -- an edge inside one tile is in its lot
-pub lot-one : (n c r i j : ℕ) {own : ℕ} (t : MergeTree) (s : Site) → tiles t ≡ 1 → IsCut c r t → own ≡ number n t s → own ≡ lot_number n t s i j
+pub lot-one : (n c r i j : ℕ) {own : ℕ} (t : MergeTree) (s : Site) → tiles t ≡ 1 → IsCut c r t → own ≡ part_number n t s → own ≡ lot_number n t s i j
 lot-one n c r i j {own} t s one h e = let same : t ≡ Tile = tree_of_one c r t h one in e ∙ rw same refl

@@ -8,8 +8,8 @@ use Rattle.edge_laws.specs.Rising.{IsRising}
 use Rattle.hg_base.proofs.Lists.{IsIn-kept, IsIn-filter, IsIn-append, IsIn-append_back}
 use Rattle.edge_laws.proofs.Fronts.{apart-one}
 use Rattle.tile_plan.specs.Merges.{MergeTree, Tile, Merge, tiles, merges}
-use Rattle.tile_plan.specs.Sites.{Part, left_site, right_site, find, post_order, is_lot_of}
-use Rattle.tile_plan.specs.Grids.{tree_in, root_of, part_in}
+use Rattle.tile_plan.specs.Sites.{SitedPart, left_site, right_site, find, post_order, is_lot_of}
+use Rattle.tile_plan.specs.Grids.{grid_tree, root_of, part_in}
 use Rattle.tile_plan.specs.declared.site.Site.{Site}
 use Rattle.tile_plan.specs.Plan.{TilePlan, IsPlan, IsEdgeAmong, IsPlaceOf, grid_of, tile_count, part, part_count, vertices, home, place_of, first_tile, tiles_of, left, right, post, lot_between_vertices, lot_edges, edges_at}
 use Rattle.tile_plan.specs.Laws.{JoinsHalves, Crosses, HasEdges}
@@ -59,10 +59,10 @@ joins_halves p m h low high =
     let v = halves-at p m h low high in
     let a = v.at in
     let n : ℕ = tile_count p in
-    let l : post p (left p m) ≡ post_order n a.x (left_site n a.x a.y a.s) = ap (λ (z : Part). post_order n z.tree z.site) v.left_part in
-    let r : post p (right p m) ≡ post_order n a.y (right_site n a.x a.y a.s) = ap (λ (z : Part). post_order n z.tree z.site) v.right_part in
+    let l : post p (left p m) ≡ post_order n a.x (left_site n a.x a.y a.s) = ap (λ (z : SitedPart). post_order n z.tree z.site) v.left_part in
+    let r : post p (right p m) ≡ post_order n a.y (right_site n a.x a.y a.s) = ap (λ (z : SitedPart). post_order n z.tree z.site) v.right_part in
     let list : post p m ≡ (post p (left p m) ++ post p (right p m)) ++ m ∷ [] =
-    ap (λ (z : Part). post_order n z.tree z.site) a.is ∙ rw (l, r, v.own_is) refl in
+    ap (λ (z : SitedPart). post_order n z.tree z.site) a.is ∙ rw (l, r, v.own_is) refl in
     record {
       parts = list;
       edges = ap (flat_map (lot_edges p)) list
@@ -91,7 +91,7 @@ unfolding lot_between_vertices part part_in
 lot-of-edge p e h i =
     let count = plan-tiles p h in
     let n : ℕ = tile_count p in
-    let t : MergeTree = tree_in (grid_of p) in
+    let t : MergeTree = grid_tree (grid_of p) in
     let ends = h.edges e i in
     let a = home-below p.frame e.u h.frame ends.u in
     let b = home-below p.frame e.v h.frame ends.v in
@@ -104,8 +104,8 @@ unfolding part part_in
 lot-once p i j x y h li lj a b =
     let count = plan-tiles p h in
     let n : ℕ = tile_count p in
-    lot-only n (tree_in (grid_of p)) (root_of n) i x y (omega (arith, count)) (omega (arith, count)) (plan-has p i h li) a
-    ∙ sym (lot-only n (tree_in (grid_of p)) (root_of n) j x y (omega (arith, count)) (omega (arith, count)) (plan-has p j h lj) b)
+    lot-only n (grid_tree (grid_of p)) (root_of n) i x y (omega (arith, count)) (omega (arith, count)) (plan-has p i h li) a
+    ∙ sym (lot-only n (grid_tree (grid_of p)) (root_of n) j x y (omega (arith, count)) (omega (arith, count)) (plan-has p j h lj) b)
 
 pub ranks-once : (p : TilePlan) (i j : ℕ) (e f : ListedEdge) → IsPlan p → i < part_count p → j < part_count p → IsIn e (lot_edges p i) → IsIn f (lot_edges p j) → e.rank ≡ f.rank → i ≡ j
 ranks-once p i j e f h li lj a b same =
@@ -124,10 +124,10 @@ at-place p i v l low high = (place-covers p v (first_tile p i) (first_tile p i +
 parted-places : (p : TilePlan) (m : ℕ) (v : HalvesAt p m) (a b : ℕ) → a < vertices p → b < vertices p → Parted v.at.x v.at.y v.at.s (home p a) (home p b)
     → IsPlaceOf p (left p m) (place_of p a) × IsPlaceOf p (right p m) (place_of p b)
 parted-places p m v a b la lb h =
-    let lf : first_tile p (left p m) ≡ v.at.s.first_tile = ap (λ (z : Part). z.site.first_tile) v.left_part in
-    let lt : tiles_of p (left p m) ≡ tiles v.at.x = ap (λ (z : Part). tiles z.tree) v.left_part in
-    let rf : first_tile p (right p m) ≡ v.at.s.first_tile + tiles v.at.x = ap (λ (z : Part). z.site.first_tile) v.right_part in
-    let rt : tiles_of p (right p m) ≡ tiles v.at.y = ap (λ (z : Part). tiles z.tree) v.right_part in
+    let lf : first_tile p (left p m) ≡ v.at.s.first_tile = ap (λ (z : SitedPart). z.site.first_tile) v.left_part in
+    let lt : tiles_of p (left p m) ≡ tiles v.at.x = ap (λ (z : SitedPart). tiles z.tree) v.left_part in
+    let rf : first_tile p (right p m) ≡ v.at.s.first_tile + tiles v.at.x = ap (λ (z : SitedPart). z.site.first_tile) v.right_part in
+    let rt : tiles_of p (right p m) ≡ tiles v.at.y = ap (λ (z : SitedPart). tiles z.tree) v.right_part in
     let first = h.first in
     let al = first.low in let ah = first.high in let bl = h.low in let bh = h.high in
     (at-place p (left p m) a la (omega (arith, lf, al)) (omega (arith, lf, lt, ah)), at-place p (right p m) b lb (omega (arith, rf, bl)) (omega (arith, rf, rt, bh)))
@@ -136,7 +136,7 @@ pub crosses : (p : TilePlan) (m : ℕ) (e : ListedEdge) → IsPlan p → tile_co
 crosses p m e h low high i =
     let x = lot-edge p m e i in
     let v = halves-at p m h low high in
-    let lot = subst (λ (z : Part). is_lot_of z.tree z.site (home p x.edge.u) (home p x.edge.v) ≡ true) v.at.is x.lot in
+    let lot = subst (λ (z : SitedPart). is_lot_of z.tree z.site (home p x.edge.u) (home p x.edge.v) ≡ true) v.at.is x.lot in
     let ends = h.edges x.edge x.member in
     subst (Crosses p m) x.is (elim (merge-lot v.at.by v.at.k v.at.x v.at.y v.at.s (home p x.edge.u) (home p x.edge.v) lot) [
       | inl h1 ↦ inl (parted-places p m v x.edge.u x.edge.v ends.u ends.v h1)
@@ -151,7 +151,7 @@ below-within p i j h l has =
     let q = part p i in
     let fits = part-fits p i q h f in
     let g = found (tile_count p) q.tree q.site j fits f.roomy has in
-    subst (λ (z : Part). Within q.tree q.site z.tree z.site) (sym (f.through j has)) g.within
+    subst (λ (z : SitedPart). Within q.tree q.site z.tree z.site) (sym (f.through j has)) g.within
 
 -- an edge at and below a part is in the lot of a part there
 pub record IsBelow (p : TilePlan) (i : ℕ) (e : ListedEdge) : Type 0 where
@@ -227,7 +227,7 @@ apart-posts p (Merge by k x y) s h fits below =
 below-count : (p : TilePlan) (i j : ℕ) → IsPlan p → i < part_count p → Has (tile_count p) (part p i).tree (part p i).site j → j < part_count p
 below-count p i j h l has =
     let f = is_part p i h l in
-    has-below p j h (Has-within (tile_count p) (tree_in (grid_of p)) (root_of (tile_count p)) (part p i).tree (part p i).site j f.within has)
+    has-below p j h (Has-within (tile_count p) (grid_tree (grid_of p)) (root_of (tile_count p)) (part p i).tree (part p i).site j f.within has)
 
 pub has_edges : (p : TilePlan) (i : ℕ) → IsPlan p → i < part_count p → HasEdges p i
 unfolding edges_at

@@ -8,7 +8,7 @@ use Rattle.std.proofs.lemmas.Nat.{mul-le, mul-add-lt, div-mul-add, mod-mul-add, 
 use Rattle.std.proofs.lemmas.Grind.{div_ceil_times}
 use Rattle.tile_plan.specs.Merges.{MergeTree, Tile, Merge, half, cut, merge_tree, IsCut, tiles, merges, tile_at}
 use Rattle.tile_plan.specs.Sites.{left_site, right_site, find}
-use Rattle.tile_plan.specs.Grids.{tiles_in, IsSmall, IsTreeOf, row_of_part, root_of, tree_in, part_in, tile_in, lot_number, lot_in}
+use Rattle.tile_plan.specs.Grids.{tiles_in, IsSmall, IsGridTree, row_of_part, root_of, grid_tree, part_in, tile_in, lot_number, lot_in}
 use Rattle.tile_plan.specs.TiledPictures.{vertices_in, grid_in, home_in, IsFrame}
 use Rattle.tile_plan.specs.declared.site.Grid.{Grid}
 use Rattle.tile_plan.specs.declared.site.Site.{Site}
@@ -49,15 +49,15 @@ cut-is (suc fuel) c r hc hr h =
     ]
 
 -- the tree of a grid
-pub tree_in-is : (g : Grid) → 1 ≤ g.columns → 1 ≤ g.rows → IsTreeOf g (tree_in g)
+pub grid_tree-is : (g : Grid) → 1 ≤ g.columns → 1 ≤ g.rows → IsGridTree g (grid_tree g)
 unfolding merge_tree
-tree_in-is g hc hr = cut-is (g.columns + g.rows) g.columns g.rows hc hr (omega arith)
+grid_tree-is g hc hr = cut-is (g.columns + g.rows) g.columns g.rows hc hr (omega arith)
 
-pub tree_in-tiles : (g : Grid) → 1 ≤ g.columns → 1 ≤ g.rows → tiles (tree_in g) ≡ tiles_in g
-tree_in-tiles g hc hr = tiles-cut g.columns g.rows (tree_in g) (tree_in-is g hc hr)
+pub grid_tree-tiles : (g : Grid) → 1 ≤ g.columns → 1 ≤ g.rows → tiles (grid_tree g) ≡ tiles_in g
+grid_tree-tiles g hc hr = tiles-cut g.columns g.rows (grid_tree g) (grid_tree-is g hc hr)
 
 -- the row of a part of the plan
-pub part-row : (g : Grid) (n i : ℕ) (s : Site) (row : Row) → n ≡ tiles_in g → s ≡ root_of n → row ≡ row_of_part n (find n (tree_in g) s i) → row ≡ row_of_part (tiles_in g) (part_in g i)
+pub part-row : (g : Grid) (n i : ℕ) (s : Site) (row : Row) → n ≡ tiles_in g → s ≡ root_of n → row ≡ row_of_part n (find n (grid_tree g) s i) → row ≡ row_of_part (tiles_in g) (part_in g i)
 unfolding part_in
 part-row g n i s row en es h = h ∙ rw (es, en) refl
 
@@ -86,21 +86,21 @@ lot-below n (Merge by k x y) s a b h =
 pub lot_in-same : (g : Grid) → IsSmall g → (a b : ℕ) → a ≡ b → a < tiles_in g → a ≡ lot_in g a b
 unfolding lot_in
 lot_in-same g small a b e h =
-    let count = tree_in-tiles g small.columns small.rows in
-    rw (← e) (sym (lot-same (tiles_in g) (tree_in g) (root_of (tiles_in g)) a (omega arith) (omega (arith, count))))
+    let count = grid_tree-tiles g small.columns small.rows in
+    rw (← e) (sym (lot-same (tiles_in g) (grid_tree g) (root_of (tiles_in g)) a (omega arith) (omega (arith, count))))
 
 pub lot_in-below : (g : Grid) → IsSmall g → (a b : ℕ) → lot_in g a b < 2 * tiles_in g - 1
 unfolding lot_in
 lot_in-below g small a b =
-    let count = tree_in-tiles g small.columns small.rows in
-    let l = lot-below (tiles_in g) (tree_in g) (root_of (tiles_in g)) a b (omega (arith, count)) in
-    let m = tiles-merges (tree_in g) in
+    let count = grid_tree-tiles g small.columns small.rows in
+    let l = lot-below (tiles_in g) (grid_tree g) (root_of (tiles_in g)) a b (omega (arith, count)) in
+    let m = tiles-merges (grid_tree g) in
     omega (arith, l, count, m)
 
 -- the tile at a place of the grid, from the tile at its column and row
-pub tile-read : (g : Grid) (i tile : ℕ) → IsSmall g → ((t : MergeTree) → IsTreeOf g t → tile ≡ tile_at t (i % g.columns) (i / g.columns)) → tile ≡ tile_in g i
+pub tile-read : (g : Grid) (i tile : ℕ) → IsSmall g → ((t : MergeTree) → IsGridTree g t → tile ≡ tile_at t (i % g.columns) (i / g.columns)) → tile ≡ tile_in g i
 unfolding tile_in
-tile-read g i tile small h = h (tree_in g) (tree_in-is g small.columns small.rows)
+tile-read g i tile small h = h (grid_tree g) (grid_tree-is g small.columns small.rows)
 
 -- a place of a grid has a row and a column
 pub column-below : (g : Grid) (i : ℕ) → IsSmall g → i % g.columns < g.columns
@@ -155,6 +155,6 @@ grid-few f h =
     omega (arith, m, h.vertices)
 
 -- the lot that a descent finds
-pub lot-read : (g : Grid) (n a b lot : ℕ) (s : Site) → IsSmall g → n ≡ tiles_in g → s ≡ root_of n → ((t : MergeTree) → IsTreeOf g t → lot ≡ lot_number n t s a b) → lot ≡ lot_in g a b
+pub lot-read : (g : Grid) (n a b lot : ℕ) (s : Site) → IsSmall g → n ≡ tiles_in g → s ≡ root_of n → ((t : MergeTree) → IsGridTree g t → lot ≡ lot_number n t s a b) → lot ≡ lot_in g a b
 unfolding lot_in
-lot-read g n a b lot s small en es h = h (tree_in g) (tree_in-is g small.columns small.rows) ∙ rw (es, en) refl
+lot-read g n a b lot s small en es h = h (grid_tree g) (grid_tree-is g small.columns small.rows) ∙ rw (es, en) refl

@@ -4,7 +4,7 @@ use Rattle.std.specs.Prelude.{◌==◌, ◌&&◌, ◌||◌, nat_lt, nat_le}
 use Rattle.std.proofs.lemmas.Bool.{cases_lt, eq-eqb, eqb-true, ltb-true, true≢false}
 use Rattle.std.proofs.lemmas.Bool.Decides.{nat_tests}
 use Rattle.tile_plan.specs.Merges.{MergeTree, Tile, Merge, tiles}
-use Rattle.tile_plan.specs.Sites.{Part, left_site, right_site, find, is_among, is_lot_of}
+use Rattle.tile_plan.specs.Sites.{SitedPart, left_site, right_site, find, is_among, is_lot_of}
 use Rattle.tile_plan.specs.Grids.{lot_number}
 use Rattle.tile_plan.specs.declared.site.Site.{Site}
 use Rattle.tile_plan.proofs.Cuts.{tiles-some}
@@ -104,20 +104,20 @@ lot-only n (Merge by k x y) s i a b fits roomy h e =
     let my = tiles-some y in
     elim (where_is n by k x y s i h) [
       | inl level ↦ (let at : find n (Merge by k x y) s i ≡ record { tree = Merge by k x y; site = s } = ap (find n (Merge by k x y) s) level ∙ find-self n (Merge by k x y) s in
-          let e' : is_lot_of (Merge by k x y) s a b ≡ true = subst (λ (q : Part). is_lot_of q.tree q.site a b ≡ true) at e in
+          let e' : is_lot_of (Merge by k x y) s a b ≡ true = subst (λ (q : SitedPart). is_lot_of q.tree q.site a b ≡ true) at e in
           elim (merge-lot by k x y s a b e') [
             | inl p ↦ (let l = p.first in level ∙ sym (lot-own n by k x y s a b l.high p.low).0)
             | inr p ↦ (let l = p.first in level ∙ sym (lot-own n by k x y s b a l.high p.low).1)
           ])
       | inr half ↦ elim half [
-        | inl l ↦ (let e' = subst (λ (q : Part). is_lot_of q.tree q.site a b ≡ true) (left-finds n by k x y s i l) e in
+        | inl l ↦ (let e' = subst (λ (q : SitedPart). is_lot_of q.tree q.site a b ≡ true) (left-finds n by k x y s i l) e in
             let q = find n x (left_site n x y s) i in
             let f = found n x (left_site n x y s) i (omega arith) (omega arith) l in
             let inside = lot-inside q.tree q.site a b e' in
             let ta = tile-within x (left_site n x y s) q.tree q.site a f.within inside.0 in
             let tb = tile-within x (left_site n x y s) q.tree q.site b f.within inside.1 in
             lot-only n x (left_site n x y s) i a b (omega arith) (omega arith) l e' ∙ sym (lot-left n by k x y s a b ta.high tb.high))
-        | inr r ↦ (let e' = subst (λ (q : Part). is_lot_of q.tree q.site a b ≡ true) (right-finds n by k x y s i r) e in
+        | inr r ↦ (let e' = subst (λ (q : SitedPart). is_lot_of q.tree q.site a b ≡ true) (right-finds n by k x y s i r) e in
             let q = find n y (right_site n x y s) i in
             let f = found n y (right_site n x y s) i (omega arith) (omega arith) r in
             let inside = lot-inside q.tree q.site a b e' in
@@ -135,19 +135,19 @@ pub record HasLot (n : ℕ) (t : MergeTree) (s : Site) (a b i : ℕ) : Type 0 wh
 own-lot : (n : ℕ) (by : Bool) (k : ℕ) (x y : MergeTree) (s : Site) (a b : ℕ) → s.first_tile + tiles (Merge by k x y) ≤ n → is_lot_of (Merge by k x y) s a b ≡ true → HasLot n (Merge by k x y) s a b (own n x y s)
 own-lot n by k x y s a b fits e = record {
   has = Has-number n (Merge by k x y) s fits;
-  lot = subst (λ (q : Part). is_lot_of q.tree q.site a b ≡ true) (sym (find-self n (Merge by k x y) s)) e;
+  lot = subst (λ (q : SitedPart). is_lot_of q.tree q.site a b ≡ true) (sym (find-self n (Merge by k x y) s)) e;
 }
 
 half-left : (n : ℕ) (by : Bool) (k : ℕ) (x y : MergeTree) (s : Site) (a b i : ℕ) → HasLot n x (left_site n x y s) a b i → HasLot n (Merge by k x y) s a b i
 half-left n by k x y s a b i h = record {
   has = Has-within n (Merge by k x y) s x (left_site n x y s) i (Within-left n by k x y s) h.has;
-  lot = subst (λ (q : Part). is_lot_of q.tree q.site a b ≡ true) (sym (left-finds n by k x y s i h.has)) h.lot;
+  lot = subst (λ (q : SitedPart). is_lot_of q.tree q.site a b ≡ true) (sym (left-finds n by k x y s i h.has)) h.lot;
 }
 
 half-right : (n : ℕ) (by : Bool) (k : ℕ) (x y : MergeTree) (s : Site) (a b i : ℕ) → HasLot n y (right_site n x y s) a b i → HasLot n (Merge by k x y) s a b i
 half-right n by k x y s a b i h = record {
   has = Has-within n (Merge by k x y) s y (right_site n x y s) i (Within-right n by k x y s) h.has;
-  lot = subst (λ (q : Part). is_lot_of q.tree q.site a b ≡ true) (sym (right-finds n by k x y s i h.has)) h.lot;
+  lot = subst (λ (q : SitedPart). is_lot_of q.tree q.site a b ≡ true) (sym (right-finds n by k x y s i h.has)) h.lot;
 }
 
 or-left : (b c : Bool) → b ≡ true → (b || c) ≡ true

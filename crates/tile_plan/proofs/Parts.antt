@@ -4,7 +4,7 @@ use Rattle.std.proofs.lemmas.Bool.{cases_lt, cases_eq, eq-eqb}
 use Rattle.hg_base.specs.Lists.{IsIn}
 use Rattle.hg_base.proofs.Lists.{IsIn-append, IsIn-append_back}
 use Rattle.tile_plan.specs.Merges.{MergeTree, Tile, Merge, tiles, merges}
-use Rattle.tile_plan.specs.Sites.{Part, number, left_site, right_site, find, post_order}
+use Rattle.tile_plan.specs.Sites.{SitedPart, part_number, left_site, right_site, find, post_order}
 use Rattle.tile_plan.specs.declared.site.Site.{Site}
 use Rattle.tile_plan.proofs.Cuts.{tiles-some}
 use Rattle.tile_plan.proofs.Descents.{lt-true, lt-false, eq-false}
@@ -80,26 +80,26 @@ right-finds n by k x y s i h =
           rw (eq-false i (own n x y s) (λ z. omega arith), lt-false i n merge, lt-false i (n + s.first_merge + merges x) (omega arith)) refl)
     ]
 
-pub find-self : (n : ℕ) (t : MergeTree) (s : Site) → find n t s (number n t s) ≡ record { tree = t; site = s }
+pub find-self : (n : ℕ) (t : MergeTree) (s : Site) → find n t s (part_number n t s) ≡ record { tree = t; site = s }
 find-self n Tile s = refl
 find-self n (Merge by k x y) s = rw (eq-eqb (own n x y s) (own n x y s) refl) refl
 
 -- a part has its own number
-pub Has-number : (n : ℕ) (t : MergeTree) (s : Site) → s.first_tile + tiles t ≤ n → Has n t s (number n t s)
+pub Has-number : (n : ℕ) (t : MergeTree) (s : Site) → s.first_tile + tiles t ≤ n → Has n t s (part_number n t s)
 Has-number n Tile s h = record { tile_low = λ z. omega arith; tile_high = λ z. omega arith; merge_low = λ z. absurd (omega arith); merge_high = λ z. absurd (omega arith) }
 Has-number n (Merge by k x y) s h = record { tile_low = λ z. absurd (omega arith); tile_high = λ z. absurd (omega arith); merge_low = λ z. omega arith; merge_high = λ z. omega arith }
 
 -- q is the part of number i at or below t
-pub record IsFound (n : ℕ) (t : MergeTree) (s : Site) (i : ℕ) (q : Part) : Type 0 where
-  pub number : number n q.tree q.site ≡ i
+pub record IsFound (n : ℕ) (t : MergeTree) (s : Site) (i : ℕ) (q : SitedPart) : Type 0 where
+  pub number : part_number n q.tree q.site ≡ i
   pub within : Within t s q.tree q.site
   pub through : (j : ℕ) → Has n q.tree q.site j → find n t s j ≡ find n q.tree q.site j
   pub roomy : tiles q.tree ≤ q.site.room
 
-found-self : (n : ℕ) (t : MergeTree) (s : Site) → tiles t ≤ s.room → IsFound n t s (number n t s) (record { tree = t; site = s })
+found-self : (n : ℕ) (t : MergeTree) (s : Site) → tiles t ≤ s.room → IsFound n t s (part_number n t s) (record { tree = t; site = s })
 found-self n t s roomy = record { number = refl; within = Within-self t s; through = λ j h. refl; roomy = roomy }
 
-found-left : (n : ℕ) (by : Bool) (k : ℕ) (x y : MergeTree) (s : Site) (i : ℕ) (q : Part) → IsFound n x (left_site n x y s) i q → IsFound n (Merge by k x y) s i q
+found-left : (n : ℕ) (by : Bool) (k : ℕ) (x y : MergeTree) (s : Site) (i : ℕ) (q : SitedPart) → IsFound n x (left_site n x y s) i q → IsFound n (Merge by k x y) s i q
 found-left n by k x y s i q f = record {
   number = f.number;
   within = Within-through (Merge by k x y) s x (left_site n x y s) q.tree q.site (Within-left n by k x y s) f.within;
@@ -107,7 +107,7 @@ found-left n by k x y s i q f = record {
   roomy = f.roomy;
 }
 
-found-right : (n : ℕ) (by : Bool) (k : ℕ) (x y : MergeTree) (s : Site) (i : ℕ) (q : Part) → IsFound n y (right_site n x y s) i q → IsFound n (Merge by k x y) s i q
+found-right : (n : ℕ) (by : Bool) (k : ℕ) (x y : MergeTree) (s : Site) (i : ℕ) (q : SitedPart) → IsFound n y (right_site n x y s) i q → IsFound n (Merge by k x y) s i q
 found-right n by k x y s i q f = record {
   number = f.number;
   within = Within-through (Merge by k x y) s y (right_site n x y s) q.tree q.site (Within-right n by k x y s) f.within;
@@ -138,38 +138,38 @@ found n (Merge by k x y) s i fits roomy h =
 
 -- the halves of a merge are found under their numbers
 pub left-found : (n : ℕ) (t : MergeTree) (s : Site) (i : ℕ) (by : Bool) (k : ℕ) (x y : MergeTree) (s' : Site) → IsFound n t s i (record { tree = Merge by k x y; site = s' }) → s'.first_tile + tiles (Merge by k x y) ≤ n
-    → find n t s (number n x (left_site n x y s')) ≡ record { tree = x; site = left_site n x y s' }
+    → find n t s (part_number n x (left_site n x y s')) ≡ record { tree = x; site = left_site n x y s' }
 left-found n t s i by k x y s' f fits =
     let h = Has-number n x (left_site n x y s') (omega arith) in
-    f.through (number n x (left_site n x y s')) (Has-within n (Merge by k x y) s' x (left_site n x y s') (number n x (left_site n x y s')) (Within-left n by k x y s') h)
-    ∙ left-finds n by k x y s' (number n x (left_site n x y s')) h ∙ find-self n x (left_site n x y s')
+    f.through (part_number n x (left_site n x y s')) (Has-within n (Merge by k x y) s' x (left_site n x y s') (part_number n x (left_site n x y s')) (Within-left n by k x y s') h)
+    ∙ left-finds n by k x y s' (part_number n x (left_site n x y s')) h ∙ find-self n x (left_site n x y s')
 
 pub right-found : (n : ℕ) (t : MergeTree) (s : Site) (i : ℕ) (by : Bool) (k : ℕ) (x y : MergeTree) (s' : Site) → IsFound n t s i (record { tree = Merge by k x y; site = s' }) → s'.first_tile + tiles (Merge by k x y) ≤ n
-    → find n t s (number n y (right_site n x y s')) ≡ record { tree = y; site = right_site n x y s' }
+    → find n t s (part_number n y (right_site n x y s')) ≡ record { tree = y; site = right_site n x y s' }
 right-found n t s i by k x y s' f fits =
     let h = Has-number n y (right_site n x y s') (omega arith) in
-    f.through (number n y (right_site n x y s')) (Has-within n (Merge by k x y) s' y (right_site n x y s') (number n y (right_site n x y s')) (Within-right n by k x y s') h)
-    ∙ right-finds n by k x y s' (number n y (right_site n x y s')) h ∙ find-self n y (right_site n x y s')
+    f.through (part_number n y (right_site n x y s')) (Has-within n (Merge by k x y) s' y (right_site n x y s') (part_number n y (right_site n x y s')) (Within-right n by k x y s') h)
+    ∙ right-finds n by k x y s' (part_number n y (right_site n x y s')) h ∙ find-self n y (right_site n x y s')
 
 -- h is a half of the merge that stands at s
-abbrev pub HalfOf : ℕ → MergeTree → Site → Part → Type 0
+abbrev pub HalfOf : ℕ → MergeTree → Site → SitedPart → Type 0
 HalfOf n Tile s h = ⊥
 HalfOf n (Merge by k x y) s h = (h ≡ record { tree = x; site = left_site n x y s }) ⊎ (h ≡ record { tree = y; site = right_site n x y s })
 
 -- each part but the last is a half of one
-pub record IsHalfOfSome (n : ℕ) (t : MergeTree) (s : Site) (h : Part) : Type 0 where
+pub record IsHalfOfSome (n : ℕ) (t : MergeTree) (s : Site) (h : SitedPart) : Type 0 where
   pub at : ℕ
   pub has : Has n t s at
   pub half : HalfOf n (find n t s at).tree (find n t s at).site h
 
-half-through : (n : ℕ) (t : MergeTree) (s : Site) (t' : MergeTree) (s' : Site) (h : Part) → Within t s t' s' → ((j : ℕ) → Has n t' s' j → find n t s j ≡ find n t' s' j) → IsHalfOfSome n t' s' h → IsHalfOfSome n t s h
+half-through : (n : ℕ) (t : MergeTree) (s : Site) (t' : MergeTree) (s' : Site) (h : SitedPart) → Within t s t' s' → ((j : ℕ) → Has n t' s' j → find n t s j ≡ find n t' s' j) → IsHalfOfSome n t' s' h → IsHalfOfSome n t s h
 half-through n t s t' s' h w same m = record {
   at = m.at;
   has = Has-within n t s t' s' m.at w m.has;
-  half = subst (λ (q : Part). HalfOf n q.tree q.site h) (sym (same m.at m.has)) m.half;
+  half = subst (λ (q : SitedPart). HalfOf n q.tree q.site h) (sym (same m.at m.has)) m.half;
 }
 
-pub half_of_some : (n : ℕ) (t : MergeTree) (s : Site) (i : ℕ) → s.first_tile + tiles t ≤ n → Has n t s i → i ≢ number n t s → IsHalfOfSome n t s (find n t s i)
+pub half_of_some : (n : ℕ) (t : MergeTree) (s : Site) (i : ℕ) → s.first_tile + tiles t ≤ n → Has n t s i → i ≢ part_number n t s → IsHalfOfSome n t s (find n t s i)
 half_of_some n Tile s i fits h off =
     elim (cases_lt i n) [
       | inl tile ↦ absurd (off (let a = h.tile_low tile in let b = h.tile_high tile in omega arith))
@@ -181,19 +181,19 @@ half_of_some n (Merge by k x y) s i fits h off =
     elim (where_is n by k x y s i h) [
       | inl level ↦ absurd (off level)
       | inr half ↦ elim half [
-        | inl l ↦ subst (IsHalfOfSome n (Merge by k x y) s) (sym (left-finds n by k x y s i l)) (elim (cases_eq i (number n x (left_site n x y s))) [
+        | inl l ↦ subst (IsHalfOfSome n (Merge by k x y) s) (sym (left-finds n by k x y s i l)) (elim (cases_eq i (part_number n x (left_site n x y s))) [
           | inl level ↦ record {
             at = own n x y s;
             has = Has-number n (Merge by k x y) s fits;
-            half = subst (λ (q : Part). HalfOf n q.tree q.site (find n x (left_site n x y s) i)) (sym itself) (inl (ap (find n x (left_site n x y s)) level ∙ find-self n x (left_site n x y s)));
+            half = subst (λ (q : SitedPart). HalfOf n q.tree q.site (find n x (left_site n x y s) i)) (sym itself) (inl (ap (find n x (left_site n x y s)) level ∙ find-self n x (left_site n x y s)));
           }
           | inr apart ↦ half-through n (Merge by k x y) s x (left_site n x y s) (find n x (left_site n x y s) i) (Within-left n by k x y s) (left-finds n by k x y s) (half_of_some n x (left_site n x y s) i (omega arith) l apart)
         ])
-        | inr r ↦ subst (IsHalfOfSome n (Merge by k x y) s) (sym (right-finds n by k x y s i r)) (elim (cases_eq i (number n y (right_site n x y s))) [
+        | inr r ↦ subst (IsHalfOfSome n (Merge by k x y) s) (sym (right-finds n by k x y s i r)) (elim (cases_eq i (part_number n y (right_site n x y s))) [
           | inl level ↦ record {
             at = own n x y s;
             has = Has-number n (Merge by k x y) s fits;
-            half = subst (λ (q : Part). HalfOf n q.tree q.site (find n y (right_site n x y s) i)) (sym itself) (inr (ap (find n y (right_site n x y s)) level ∙ find-self n y (right_site n x y s)));
+            half = subst (λ (q : SitedPart). HalfOf n q.tree q.site (find n y (right_site n x y s) i)) (sym itself) (inr (ap (find n y (right_site n x y s)) level ∙ find-self n y (right_site n x y s)));
           }
           | inr apart ↦ half-through n (Merge by k x y) s y (right_site n x y s) (find n y (right_site n x y s) i) (Within-right n by k x y s) (right-finds n by k x y s) (half_of_some n y (right_site n x y s) i (omega arith) r apart)
         ])
@@ -206,7 +206,7 @@ first-room n Tile s fits = refl
 first-room n (Merge by k x y) s fits =
     let mx = tiles-some x in
     let h : Has n x (left_site n x y s) s.first_tile = record { tile_low = λ z. omega arith; tile_high = λ z. omega arith; merge_low = λ z. absurd (omega arith); merge_high = λ z. absurd (omega arith) } in
-    ap (λ (q : Part). q.site.room) (left-finds n by k x y s s.first_tile h) ∙ first-room n x (left_site n x y s) (omega arith)
+    ap (λ (q : SitedPart). q.site.room) (left-finds n by k x y s s.first_tile h) ∙ first-room n x (left_site n x y s) (omega arith)
 
 -- the post-order lists the parts at and below one
 pub post-has : (n : ℕ) (t : MergeTree) (s : Site) (i : ℕ) → s.first_tile + tiles t ≤ n → IsIn i (post_order n t s) → Has n t s i

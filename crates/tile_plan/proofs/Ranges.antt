@@ -9,8 +9,8 @@ use Rattle.std.proofs.lemmas.Grind.{div_ceil_times}
 use Rattle.std.proofs.lemmas.List.{append-nil}
 use Rattle.hg_base.specs.Counting.{IsOneToOne}
 use Rattle.tile_plan.specs.Merges.{MergeTree, Tile, Merge, half, IsCut, tiles, tile_at}
-use Rattle.tile_plan.specs.Sites.{Part, number, left_site, right_site, find, post_order}
-use Rattle.tile_plan.specs.Grids.{tree_in, root_of, part_in}
+use Rattle.tile_plan.specs.Sites.{SitedPart, part_number, left_site, right_site, find, post_order}
+use Rattle.tile_plan.specs.Grids.{grid_tree, root_of, part_in}
 use Rattle.tile_plan.specs.TiledPictures.{grid_in, home_in}
 use Rattle.tile_plan.specs.Placing.{start_by}
 use Rattle.tile_plan.specs.declared.site.Site.{Site}
@@ -18,7 +18,7 @@ use Rattle.tile_plan.specs.Plan.{TilePlan, IsPlan, IsLargestFrom, grid_of, tile_
 use Rattle.tile_plan.specs.Laws.{IsSomewhere, IsTile}
 use Rattle.tile_plan.proofs.Cuts.{tiles-some}
 use Rattle.tile_plan.proofs.Descents.{lt-true, lt-false}
-use Rattle.tile_plan.proofs.Laying.{tree_in-is, grid-columns, grid-rows}
+use Rattle.tile_plan.proofs.Laying.{grid_tree-is, grid-columns, grid-rows}
 use Rattle.tile_plan.proofs.Counting as counting
 use Rattle.tile_plan.proofs.Parts.{Has, where_is, find-self, left-finds, right-finds, Has-number, Has-within, Within-left, Within-right, first-room, own}
 use Rattle.tile_plan.proofs.Parents.{IsPart, plan-tiles, plan-has, has-below, is_part, part-fits}
@@ -86,7 +86,7 @@ unfolding home_in
 tile-vertex p t h l =
     let f = p.frame in
     let count = plan-tiles p h in
-    let a = tile_at-onto (grid_in f).columns (grid_in f).rows (tree_in (grid_in f)) t (tree_in-is (grid_in f) (grid-columns f h.frame) (grid-rows f h.frame)) (omega (arith, count)) in
+    let a = tile_at-onto (grid_in f).columns (grid_in f).rows (grid_tree (grid_in f)) t (grid_tree-is (grid_in f) (grid-columns f h.frame) (grid-rows f h.frame)) (omega (arith, count)) in
     let column = block-first a.column f.width f.side h.frame.side a.column_low in
     let row = block-first a.row f.height f.side h.frame.side a.row_low in
     record {
@@ -136,10 +136,10 @@ room-fits n Tile s i fits room h = room
 room-fits n (Merge by k x y) s i fits room h =
     let my = tiles-some y in
     elim (where_is n by k x y s i h) [
-      | inl level ↦ subst (λ (q : Part). q.site.first_tile + q.site.room ≤ n) (sym (ap (find n (Merge by k x y) s) level ∙ find-self n (Merge by k x y) s)) room
+      | inl level ↦ subst (λ (q : SitedPart). q.site.first_tile + q.site.room ≤ n) (sym (ap (find n (Merge by k x y) s) level ∙ find-self n (Merge by k x y) s)) room
       | inr half ↦ elim half [
-        | inl l ↦ subst (λ (q : Part). q.site.first_tile + q.site.room ≤ n) (sym (left-finds n by k x y s i l)) (room-fits n x (left_site n x y s) i (omega arith) room l)
-        | inr r ↦ subst (λ (q : Part). q.site.first_tile + q.site.room ≤ n) (sym (right-finds n by k x y s i r)) (room-fits n y (right_site n x y s) i (omega arith) (omega arith) r)
+        | inl l ↦ subst (λ (q : SitedPart). q.site.first_tile + q.site.room ≤ n) (sym (left-finds n by k x y s i l)) (room-fits n x (left_site n x y s) i (omega arith) room l)
+        | inr r ↦ subst (λ (q : SitedPart). q.site.first_tile + q.site.room ≤ n) (sym (right-finds n by k x y s i r)) (room-fits n y (right_site n x y s) i (omega arith) (omega arith) r)
       ]
     ]
 
@@ -153,25 +153,25 @@ room-is p i h l =
     let fits = part-fits p i q h f in
     let some = tiles-some q.tree in
     let has : Has n q.tree q.site q.site.first_tile = record { tile_low = λ z. omega arith; tile_high = λ z. omega arith; merge_low = λ z. absurd (omega arith); merge_high = λ z. absurd (omega arith) } in
-    ap (λ (z : Part). z.site.room) (f.through q.site.first_tile has) ∙ first-room n q.tree q.site fits
+    ap (λ (z : SitedPart). z.site.room) (f.through q.site.first_tile has) ∙ first-room n q.tree q.site fits
 
 -- a part with the same first tile has as many tiles as the room
-record FillsRoom (n : ℕ) (t : MergeTree) (s : Site) (q : Part) : Type 0 where
+record FillsRoom (n : ℕ) (t : MergeTree) (s : Site) (q : SitedPart) : Type 0 where
   pub at : ℕ
   pub has : Has n t s at
   pub first : (find n t s at).site.first_tile ≡ q.site.first_tile
   pub all : tiles (find n t s at).tree ≡ q.site.room
 
-record SharesRoom (s : Site) (q : Part) : Type 0 where
+record SharesRoom (s : Site) (q : SitedPart) : Type 0 where
   pub first : s.first_tile ≡ q.site.first_tile
   pub room : s.room ≡ q.site.room
 
-fills-through : (n : ℕ) (t : MergeTree) (s : Site) (t' : MergeTree) (s' : Site) (q : Part) → ((j : ℕ) → Has n t' s' j → Has n t s j) → ((j : ℕ) → Has n t' s' j → find n t s j ≡ find n t' s' j) → FillsRoom n t' s' q → FillsRoom n t s q
+fills-through : (n : ℕ) (t : MergeTree) (s : Site) (t' : MergeTree) (s' : Site) (q : SitedPart) → ((j : ℕ) → Has n t' s' j → Has n t s j) → ((j : ℕ) → Has n t' s' j → find n t s j ≡ find n t' s' j) → FillsRoom n t' s' q → FillsRoom n t s q
 fills-through n t s t' s' q has same f = record {
   at = f.at;
   has = has f.at f.has;
-  first = ap (λ (z : Part). z.site.first_tile) (same f.at f.has) ∙ f.first;
-  all = ap (λ (z : Part). tiles z.tree) (same f.at f.has) ∙ f.all;
+  first = ap (λ (z : SitedPart). z.site.first_tile) (same f.at f.has) ∙ f.first;
+  all = ap (λ (z : SitedPart). tiles z.tree) (same f.at f.has) ∙ f.all;
 }
 
 room-filled : (n : ℕ) (t : MergeTree) (s : Site) (i : ℕ) → s.first_tile + tiles t ≤ n → Has n t s i → SharesRoom s (find n t s i) ⊎ FillsRoom n t s (find n t s i)
@@ -181,13 +181,13 @@ room-filled n (Merge by k x y) s i fits h =
     elim (where_is n by k x y s i h) [
       | inl level ↦ inl (subst (SharesRoom s) (sym (ap (find n (Merge by k x y) s) level ∙ find-self n (Merge by k x y) s)) (record { first = refl; room = refl }))
       | inr half ↦ elim half [
-        | inl l ↦ subst (λ (q : Part). SharesRoom s q ⊎ FillsRoom n (Merge by k x y) s q) (sym (left-finds n by k x y s i l)) (elim (room-filled n x (left_site n x y s) i (omega arith) l) [
+        | inl l ↦ subst (λ (q : SitedPart). SharesRoom s q ⊎ FillsRoom n (Merge by k x y) s q) (sym (left-finds n by k x y s i l)) (elim (room-filled n x (left_site n x y s) i (omega arith) l) [
           | inl shares ↦ inl (record { first = shares.first; room = shares.room })
           | inr fills ↦ inr (fills-through n (Merge by k x y) s x (left_site n x y s) (find n x (left_site n x y s) i) (λ j. Has-within n (Merge by k x y) s x (left_site n x y s) j (Within-left n by k x y s)) (left-finds n by k x y s) fills)
         ])
-        | inr r ↦ subst (λ (q : Part). SharesRoom s q ⊎ FillsRoom n (Merge by k x y) s q) (sym (right-finds n by k x y s i r)) (inr (fills-through n (Merge by k x y) s y (right_site n x y s) (find n y (right_site n x y s) i) (λ j. Has-within n (Merge by k x y) s y (right_site n x y s) j (Within-right n by k x y s)) (right-finds n by k x y s)
+        | inr r ↦ subst (λ (q : SitedPart). SharesRoom s q ⊎ FillsRoom n (Merge by k x y) s q) (sym (right-finds n by k x y s i r)) (inr (fills-through n (Merge by k x y) s y (right_site n x y s) (find n y (right_site n x y s) i) (λ j. Has-within n (Merge by k x y) s y (right_site n x y s) j (Within-right n by k x y s)) (right-finds n by k x y s)
             (elim (room-filled n y (right_site n x y s) i (omega arith) r) [
-              | inl shares ↦ record { at = number n y (right_site n x y s); has = Has-number n y (right_site n x y s) (omega arith); first = ap (λ (z : Part). z.site.first_tile) (find-self n y (right_site n x y s)) ∙ shares.first; all = ap (λ (z : Part). tiles z.tree) (find-self n y (right_site n x y s)) ∙ shares.room }
+              | inl shares ↦ record { at = part_number n y (right_site n x y s); has = Has-number n y (right_site n x y s) (omega arith); first = ap (λ (z : SitedPart). z.site.first_tile) (find-self n y (right_site n x y s)) ∙ shares.first; all = ap (λ (z : SitedPart). tiles z.tree) (find-self n y (right_site n x y s)) ∙ shares.room }
               | inr fills ↦ fills
             ])))
       ]
@@ -195,7 +195,7 @@ room-filled n (Merge by k x y) s i fits h =
 
 plan-room : (p : TilePlan) (i : ℕ) → IsPlan p → i < part_count p → (part p i).site.first_tile + (part p i).site.room ≤ tile_count p
 unfolding part part_in
-plan-room p i h l = let count = plan-tiles p h in room-fits (tile_count p) (tree_in (grid_of p)) (root_of (tile_count p)) i (omega (arith, count)) (omega arith) (plan-has p i h l)
+plan-room p i h l = let count = plan-tiles p h in room-fits (tile_count p) (grid_tree (grid_of p)) (root_of (tile_count p)) i (omega (arith, count)) (omega arith) (plan-has p i h l)
 
 pub is_somewhere : (p : TilePlan) (i : ℕ) → IsPlan p → i < part_count p → IsSomewhere p i
 is_somewhere p i h l =
@@ -220,16 +220,16 @@ pub is_tile : (p : TilePlan) (t : ℕ) → IsPlan p → t < tile_count p → IsT
 unfolding edges_at
 is_tile p t h l = by_part (part p t) refl (is_part p t h (omega arith))
   where
-    by_part : (q : Part) → part p t ≡ q → IsPart p t q → IsTile p t
+    by_part : (q : SitedPart) → part p t ≡ q → IsPart p t q → IsTile p t
     by_part q e f = by_tree q.tree q.site e f
       where
         by_tree : (u : MergeTree) (s : Site) → part p t ≡ record { tree = u; site = s } → IsPart p t (record { tree = u; site = s }) → IsTile p t
         by_tree Tile s e f =
             let at : s.first_tile ≡ t = f.number in
-            let list : post p t ≡ t ∷ [] = ap (λ (z : Part). post_order (tile_count p) z.tree z.site) e ∙ ap (λ (z : ℕ). z ∷ []) at in
+            let list : post p t ≡ t ∷ [] = ap (λ (z : SitedPart). post_order (tile_count p) z.tree z.site) e ∙ ap (λ (z : ℕ). z ∷ []) at in
             record {
-              first = ap (λ (z : Part). z.site.first_tile) e ∙ at;
-              one = ap (λ (z : Part). tiles z.tree) e;
+              first = ap (λ (z : SitedPart). z.site.first_tile) e ∙ at;
+              one = ap (λ (z : SitedPart). tiles z.tree) e;
               post = list;
               edges = ap (flat_map (lot_edges p)) list ∙ append-nil (lot_edges p t);
             }
@@ -241,17 +241,17 @@ unfolding part part_in
 is_largest p t h l =
     let count = plan-tiles p h in
     let n : ℕ = tile_count p in
-    let tree : MergeTree = tree_in (grid_of p) in
+    let tree : MergeTree = grid_tree (grid_of p) in
     let low : t < part_count p = omega arith in
     let tile = is_tile p t h l in
     let first : first_tile p t ≡ t = tile.first in
     record {
       attained = elim (room-filled n tree (root_of n) t (omega (arith, count)) (plan-has p t h low)) [
         | inl shares ↦ (
-          number n tree (root_of n),
+          part_number n tree (root_of n),
           (
-            has-below p (number n tree (root_of n)) h (Has-number n tree (root_of n) (omega (arith, count))),
-            (ap (λ (z : Part). z.site.first_tile) (find-self n tree (root_of n)) ∙ shares.first ∙ first, ap (λ (z : Part). tiles z.tree) (find-self n tree (root_of n)) ∙ count ∙ shares.room),
+            has-below p (part_number n tree (root_of n)) h (Has-number n tree (root_of n) (omega (arith, count))),
+            (ap (λ (z : SitedPart). z.site.first_tile) (find-self n tree (root_of n)) ∙ shares.first ∙ first, ap (λ (z : SitedPart). tiles z.tree) (find-self n tree (root_of n)) ∙ count ∙ shares.room),
           ),
         )
         | inr fills ↦ (fills.at, (has-below p fills.at h fills.has, (fills.first ∙ first, fills.all)))

@@ -11,7 +11,7 @@ use Rattle.hg_base.specs.Counting.{IsOneToOne}
 use Rattle.edge_laws.proofs.Members.{IsRising-filter}
 use Rattle.tile_plan.proofs.Cuts.{tiles-some}
 use Rattle.tile_plan.specs.Sites.{is_lot_of}
-use Rattle.tile_plan.specs.Grids.{tree_in, part_in, rows_of, row_of_part}
+use Rattle.tile_plan.specs.Grids.{grid_tree, part_in, rows_of, row_of_part}
 use Rattle.tile_plan.specs.Placing.{IsTable}
 use Rattle.tile_plan.specs.Plan.{TilePlan, IsPlan, grid_of, tile_count, part_count, root, vertices, part, home, place_of, start, left, right, parent, side, first_tile, tiles_of, parent_and_side, room_tiles, lot_between_vertices, lot_edges}
 use Rattle.tile_plan.specs.PlanFields.{HoldsPlaces, HoldsLots, HoldsPlan, plan_of}
@@ -70,7 +70,7 @@ row-read q i rows row same l read =
 
 -- there is a tile
 pub some-tile : (q : TilePlan) → IsPlan q → 1 ≤ tile_count q
-some-tile q h = let count = plan-tiles q h in let some = tiles-some (tree_in (grid_of q)) in omega (arith, count, some)
+some-tile q h = let count = plan-tiles q h in let some = tiles-some (grid_tree (grid_of q)) in omega (arith, count, some)
 
 -- a value of the starts
 pub start-read : (q : TilePlan) (k v : ℕ) (starts : List ℕ) → IsTable (start q) (tile_count q + 1) starts → k ≤ tile_count q → v ≡ get_or starts k v → v ≡ start q k

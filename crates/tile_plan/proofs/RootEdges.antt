@@ -6,8 +6,8 @@ use Rattle.edge_laws.specs.Edges.{ListedEdge, EdgeList, AreApart, AreWithin, IsS
 use Rattle.hg_base.specs.Lists.{IsIn}
 use Rattle.edge_laws.proofs.Sets.{in_order-same, joins-same, chain-same}
 use Rattle.edge_laws.proofs.Renaming.{joins-renamed, chain-renamed}
-use Rattle.tile_plan.specs.Sites.{Part, post_order}
-use Rattle.tile_plan.specs.Grids.{tree_in, root_of}
+use Rattle.tile_plan.specs.Sites.{SitedPart, post_order}
+use Rattle.tile_plan.specs.Grids.{grid_tree, root_of}
 use Rattle.tile_plan.specs.Plan.{TilePlan, IsPlan, grid_of, tile_count, part_count, root, vertices, place_of, post, lot_between_vertices, lot_edges, edges_at}
 use Rattle.tile_plan.proofs.Parts.{has-post}
 use Rattle.tile_plan.proofs.Parents.{plan-has, root-part}
@@ -44,7 +44,7 @@ edge-there : (p : TilePlan) (x : ListedEdge) → IsPlan p → IsIn x p.edges →
 unfolding edges_at lot_edges
 edge-there p x h i =
     let at = lot-of-edge p x h i in
-    let listed = subst (λ (q : Part). IsIn at.0 (post_order (tile_count p) q.tree q.site)) (sym (root-part p h)) (has-post (tile_count p) (tree_in (grid_of p)) (root_of (tile_count p)) at.0 (plan-has p at.0 h at.1.0)) in
+    let listed = subst (λ (q : SitedPart). IsIn at.0 (post_order (tile_count p) q.tree q.site)) (sym (root-part p h)) (has-post (tile_count p) (grid_tree (grid_of p)) (root_of (tile_count p)) at.0 (plan-has p at.0 h at.1.0)) in
     IsIn-flat_map (lot_edges p) (post p (root p)) at.0 (renamed_edge (place_of p) x) listed (IsIn-renamed (place_of p) (lot_between_vertices p at.0) x at.1.1)
 
 pub root-all : (p : TilePlan) → IsPlan p → IsSameSet (edges_at p (root p)) (renamed (place_of p) p.edges)

@@ -2,7 +2,7 @@
 use Rattle.std.specs.Prelude.{◌≡◌, ℕ, ◌+◌, ◌*◌, ◌≤◌, ◌-◌, ◌/◌, ◌%◌, ◌&&◌, List, map, nat_lt, nat_le, if◌then◌else◌}
 use Rattle.std.specs.List.{range_with_len}
 use Rattle.tile_plan.specs.Merges.{MergeTree, Tile, Merge, half, merge_tree, IsCut, tiles, merges, tile_at}
-use Rattle.tile_plan.specs.Sites.{Part, find, left_site, right_site, left_number, right_number}
+use Rattle.tile_plan.specs.Sites.{SitedPart, find, left_site, right_site, left_number, right_number}
 use Rattle.tile_plan.specs.declared.site.Grid.{Grid}
 use Rattle.tile_plan.specs.declared.site.Site.{Site}
 use Rattle.tile_plan.specs.declared.site.Side.TheVariants as sides
@@ -19,13 +19,13 @@ pub record IsSmall (g : Grid) : Type 0 where
   pub few : tiles_in g ≤ 65536
 
 -- the tree is that of the grid
-abbrev pub IsTreeOf : Grid → MergeTree → Type 0
-IsTreeOf g t = IsCut g.columns g.rows t
+abbrev pub IsGridTree : Grid → MergeTree → Type 0
+IsGridTree g t = IsCut g.columns g.rows t
 
 -- the halves of the tree are those of two grids
 abbrev pub AreHalves : MergeTree → Grid → Grid → Type 0
 AreHalves Tile a b = ⊥
-AreHalves (Merge by k x y) a b = IsTreeOf a x × IsTreeOf b y
+AreHalves (Merge by k x y) a b = IsGridTree a x × IsGridTree b y
 
 -- the halves of a grid side by side
 pub record AreSideBySide (g a b : Grid) : Type 0 where
@@ -48,7 +48,7 @@ pub record IsSited (n : ℕ) (g : Grid) (s : Site) : Type 0 where
   pub merges : s.first_merge ≤ s.first_tile
 
 -- what the table of parts keeps of one
-abbrev pub row_of_part : ℕ → Part → Row
+abbrev pub row_of_part : ℕ → SitedPart → Row
 row_of_part n p = record {
   site = p.site;
   tiles = tiles p.tree;
@@ -70,12 +70,12 @@ abbrev pub root_of : ℕ → Site
 root_of n = record { first_tile = 0; first_merge = 0; parent = 2 * n - 1; side = sides.Left; room = n }
 
 -- the tree of merges of a grid
-abbrev pub tree_in : Grid → MergeTree
-tree_in g = merge_tree g.columns g.rows
+abbrev pub grid_tree : Grid → MergeTree
+grid_tree g = merge_tree g.columns g.rows
 
 -- the part of number i
-unfoldable pub part_in : Grid → ℕ → Part
-part_in g i = find (tiles_in g) (tree_in g) (root_of (tiles_in g)) i
+unfoldable pub part_in : Grid → ℕ → SitedPart
+part_in g i = find (tiles_in g) (grid_tree g) (root_of (tiles_in g)) i
 
 -- the table of all parts
 unfoldable pub rows_of : Grid → List Row
@@ -83,8 +83,8 @@ rows_of g = map (λ i. row_of_part (tiles_in g) (part_in g i)) (range_with_len 0
 
 -- the number of the tile at a place of the grid, row after row
 unfoldable pub tile_in : Grid → ℕ → ℕ
-tile_in g i = tile_at (tree_in g) (i % g.columns) (i / g.columns)
+tile_in g i = tile_at (grid_tree g) (i % g.columns) (i / g.columns)
 
 -- the part whose lot an edge between tiles a and b is in
 unfoldable pub lot_in : Grid → ℕ → ℕ → ℕ
-lot_in g a b = lot_number (tiles_in g) (tree_in g) (root_of (tiles_in g)) a b
+lot_in g a b = lot_number (tiles_in g) (grid_tree g) (root_of (tiles_in g)) a b

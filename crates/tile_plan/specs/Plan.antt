@@ -7,7 +7,7 @@ use Rattle.edge_laws.specs.Edges.{ListedEdge, EdgeList, renamed}
 use Rattle.hg_base.specs.Lists.{IsIn}
 use Rattle.edge_laws.specs.Rising.{IsRising}
 use Rattle.tile_plan.specs.Merges.{tiles}
-use Rattle.tile_plan.specs.Sites.{Part, other_side, post_order, is_lot_of, left_number, right_number}
+use Rattle.tile_plan.specs.Sites.{SitedPart, other_side, post_order, is_lot_of, left_number, right_number}
 use Rattle.tile_plan.specs.Grids.{tiles_in, part_in}
 use Rattle.tile_plan.specs.TiledPictures.{vertices_in, grid_in, home_in, IsFrame}
 use Rattle.tile_plan.specs.Placing.{place_by, start_by}
@@ -56,7 +56,7 @@ unfoldable pub start : TilePlan → ℕ → ℕ
 start p t = start_by (home p) (vertices p) t
 
 -- the part of number i
-unfoldable pub part : TilePlan → ℕ → Part
+unfoldable pub part : TilePlan → ℕ → SitedPart
 part p i = part_in (grid_of p) i
 
 -- how many parts there are

@@ -6,7 +6,7 @@ use Rattle.tile_plan.specs.declared.site.Side.{Side}
 use Rattle.tile_plan.specs.declared.site.Side.TheVariants as sides
 
 -- a part: the tree at and below it, and where it stands
-pub record Part : Type 0 where
+pub record SitedPart : Type 0 where
   pub tree : MergeTree
   pub site : Site
 
@@ -16,9 +16,9 @@ other_side sides.Left = sides.Right
 other_side sides.Right = sides.Left
 
 -- the number of the part: tiles are numbered from 0 and merges from n, in post-order
-abbrev pub number : ℕ → MergeTree → Site → ℕ
-number n Tile s = s.first_tile
-number n (Merge by k x y) s = n + s.first_merge + merges x + merges y
+abbrev pub part_number : ℕ → MergeTree → Site → ℕ
+part_number n Tile s = s.first_tile
+part_number n (Merge by k x y) s = n + s.first_merge + merges x + merges y
 
 -- the site of the left half x of a merge at s
 abbrev pub left_site : ℕ → MergeTree → MergeTree → Site → Site
@@ -45,7 +45,7 @@ abbrev pub is_left : ℕ → MergeTree → Site → ℕ → Bool
 is_left n x s p = if nat_lt p n then nat_lt p (s.first_tile + tiles x) else nat_lt p (n + s.first_merge + merges x)
 
 -- the part of number p at or below one
-abbrev pub find : ℕ → MergeTree → Site → ℕ → Part
+abbrev pub find : ℕ → MergeTree → Site → ℕ → SitedPart
 find n Tile s p = record { tree = Tile; site = s }
 find n (Merge by k x y) s p =
     if p == n + s.first_merge + merges x + merges y then record { tree = Merge by k x y; site = s } else
@@ -72,9 +72,9 @@ is_lot_of (Merge by k x y) s a b =
 -- the number of the left half of a part, 0 for a tile
 abbrev pub left_number : ℕ → MergeTree → Site → ℕ
 left_number n Tile s = 0
-left_number n (Merge by k x y) s = number n x (left_site n x y s)
+left_number n (Merge by k x y) s = part_number n x (left_site n x y s)
 
 -- the number of the right half
 abbrev pub right_number : ℕ → MergeTree → Site → ℕ
 right_number n Tile s = 0
-right_number n (Merge by k x y) s = number n y (right_site n x y s)
+right_number n (Merge by k x y) s = part_number n y (right_site n x y s)

@@ -2,7 +2,7 @@
 use Rattle.std.specs.Prelude.{ℕ, ◌*◌, ◌/◌, ◌%◌, ◌≤◌}
 use Rattle.std.specs.Int.{div_ceil}
 use Rattle.tile_plan.specs.Merges.{tile_at}
-use Rattle.tile_plan.specs.Grids.{tree_in}
+use Rattle.tile_plan.specs.Grids.{grid_tree}
 use Rattle.tile_plan.specs.declared.frame.Frame.{Frame}
 use Rattle.tile_plan.specs.declared.site.Grid.{Grid}
 
@@ -23,4 +23,4 @@ grid_in f = record { columns = div_ceil f.width f.side; rows = div_ceil f.height
 
 -- the tile of a vertex: that of its column and row, each divided by the side
 unfoldable pub home_in : Frame → ℕ → ℕ
-home_in f v = tile_at (tree_in (grid_in f)) (v % f.width / f.side) (v / f.width / f.side)
+home_in f v = tile_at (grid_tree (grid_in f)) (v % f.width / f.side) (v / f.width / f.side)

@@ -1,7 +1,7 @@
 ghost use Rattle.std.specs.Prelude.{◌≡◌, ℕ, ◌+◌, ◌-◌, ◌*◌, ◌<◌, ◌≤◌, IsTrue, ◌↔◌};
 ghost use Rattle.tile_plan.specs.Merges.{MergeTree, merges, tile_at, tiles};
-ghost use Rattle.tile_plan.specs.Sites.{find, is_left, left_site, number, right_site};
-ghost use Rattle.tile_plan.specs.Grids.{AreHalves, AreSideBySide, AreStacked, IsSited, IsSmall, IsTreeOf, lot_number, row_of_part, tiles_in};
+ghost use Rattle.tile_plan.specs.Sites.{find, is_left, left_site, part_number, right_site};
+ghost use Rattle.tile_plan.specs.Grids.{AreHalves, AreSideBySide, AreStacked, IsSited, IsSmall, IsGridTree, lot_number, row_of_part, tiles_in};
 ghost use Rattle.tile_plan.specs.declared.site.Side.TheVariants as sides;
 
 /// Which half of a merge a part is.
@@ -45,7 +45,7 @@ impl Grid {
         ensures value { result ≡ tiles_in self }
         ensures some { 1 ≤ result }
         ensures few { result ≤ 65536 }
-        ensures tree { (t : MergeTree) → IsTreeOf self t → result ≡ tiles t }
+        ensures tree { (t : MergeTree) → IsGridTree self t → result ≡ tiles t }
     {
         self.columns * self.rows
     }
@@ -57,7 +57,7 @@ impl Grid {
         ensures first { IsSmall result.0 }
         ensures second { IsSmall result.1 }
         ensures sum { tiles_in result.0 + tiles_in result.1 ≡ tiles_in self }
-        ensures tree { (t : MergeTree) → IsTreeOf self t → AreHalves t result.0 result.1 }
+        ensures tree { (t : MergeTree) → IsGridTree self t → AreHalves t result.0 result.1 }
         ensures by_columns { self.rows ≤ self.columns → AreSideBySide self result.0 result.1 }
         ensures by_rows { self.columns < self.rows → AreStacked self result.0 result.1 }
         ensures first_smaller { result.0.columns + result.0.rows < self.columns + self.rows }
@@ -96,7 +96,7 @@ impl Grid {
         requires small { IsSmall self }
         requires column { column < self.columns }
         requires row { row < self.rows }
-        ensures value { (t : MergeTree) → IsTreeOf self t → result ≡ tile_at t column row }
+        ensures value { (t : MergeTree) → IsGridTree self t → result ≡ tile_at t column row }
         ensures below { result < tiles_in self }
     {
         if self.tiles() == 1 {
@@ -121,7 +121,7 @@ impl Grid {
 fn number(n: u32, grid: Grid, site: Site) -> u32
     requires small { IsSmall grid }
     requires sited { IsSited n grid site }
-    ensures { (t : MergeTree) → IsTreeOf grid t → result ≡ number n t site }
+    ensures { (t : MergeTree) → IsGridTree grid t → result ≡ part_number n t site }
 {
     let tiles = grid.tiles();
     if tiles == 1 {
@@ -177,7 +177,7 @@ fn is_left(n: u32, first: u32, site: Site, p: u32) -> bool
 pub(crate) fn find(n: u32, grid: Grid, site: Site, p: u32) -> Row
     requires small { IsSmall grid }
     requires sited { IsSited n grid site }
-    ensures { (t : MergeTree) → IsTreeOf grid t → result ≡ row_of_part n (find n t site p) }
+    ensures { (t : MergeTree) → IsGridTree grid t → result ≡ row_of_part n (find n t site p) }
 {
     let own = number(n, grid, site);
     let tiles = grid.tiles();
@@ -210,7 +210,7 @@ pub(crate) fn find(n: u32, grid: Grid, site: Site, p: u32) -> Row
 pub(crate) fn lot_of(n: u32, grid: Grid, site: Site, a: u32, b: u32) -> u32
     requires small { IsSmall grid }
     requires sited { IsSited n grid site }
-    ensures { (t : MergeTree) → IsTreeOf grid t → result ≡ lot_number n t site a b }
+    ensures { (t : MergeTree) → IsGridTree grid t → result ≡ lot_number n t site a b }
 {
     let own = number(n, grid, site);
     if grid.tiles() == 1 {

@@ -11,7 +11,7 @@ use Rattle.edge_laws.specs.Edges.{ListedEdge, EdgeList, AreWithin}
 use Rattle.hg_base.specs.Lists.{IsIn}
 use Rattle.hg_base.specs.Counting.{count_below, is_least}
 use Rattle.hg_base.specs.Labels.{least_of}
-use Rattle.hg_base.specs.Numbering.{is_one_key, has_key, same_key, key_label, is_head as is_key_head}
+use Rattle.hg_base.specs.Numbering.{is_one_key, has_key, same_key, key_label, is_class_head as is_key_head}
 use Rattle.edge_laws.specs.Rank.{number_at, ranked}
 use Rattle.tree_laws.specs.Tree.{ParentTree, parent, altitude, graph_tree}
 use Rattle.tree_laws.specs.Levels.{IsLevelTree}

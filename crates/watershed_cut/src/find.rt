@@ -50,8 +50,7 @@ fn by_tree(
     requires minima { minima.now ≡ minima_of graph.now }
     ensures { IfOk result (λ watershed. watershed ≡ watershed_of graph.now) }
 {
-    // That the graph has not too many edges.
-    let _ = graph.m();
+    graph.keeps_its_rules();
     let near = nearest_holders(alloc, tree, minima)?;
     let chosen = chosen_edges(alloc, graph, tree, minima, &near)?;
     let forest = numbers_of(alloc, &chosen)?;

@@ -1,5 +1,5 @@
 use Rattle.std.proofs.Common.{◌++◌, map}
-use Rattle.border_climb.specs.Parts.{listed}
+use Rattle.border_climb.specs.Parts.{as_listed}
 use Rattle.border_climb.proofs.Lots.{stands-noted, listed-placed}
 use Rattle.border_climb.proofs.Uniting.{united-from, border-taken, given-sum}
 use Rattle.border_climb.proofs.building.join.Goals as goal
@@ -26,6 +26,6 @@ pub returns-clause-given : goal.returns-clause-given
 returns-clause-given c =
     let w = c.requires.lists in
     given-sum c.args.left c.args.right c.note.new.self c.args.border.now w.0 w.1.0 w.1.1
-    (stands-noted _ _ ((w.0 ++ w.1.0) ++ map listed c.args.border.now) _ c.note.ensures (c.give_all.ensures.stands (w.0 ++ w.1.0) (map listed c.args.border.now)
+    (stands-noted _ _ ((w.0 ++ w.1.0) ++ map as_listed c.args.border.now) _ c.note.ensures (c.give_all.ensures.stands (w.0 ++ w.1.0) (map as_listed c.args.border.now)
     (border-taken c.args.left c.args.right c.unite-part.result c.args.border.now w.0 w.1.0 c.keeps_its_rules.ensures.pool c.keeps_its_rules-2.ensures.pool c.requires.next w.1.1 c.unite-part.ensures.region
     (c.unite-part.ensures.stands w.0 w.1.0 (united-from c.args.left c.args.right c.args.border.now w.0 w.1.0 w.1.1))) (listed-placed c.args.border.now)))

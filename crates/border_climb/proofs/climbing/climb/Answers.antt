@@ -1,7 +1,7 @@
 use Rattle.std.proofs.Common.{sym, subst, ◌≤◌, ◌<◌, arith}
 use Rattle.node_region.specs.declared.cell.Cell.{Cell}
 use Rattle.border_climb.specs.declared.climbing.Met.{Met}
-use Rattle.border_climb.specs.Climbs.{Ends, IsFurther}
+use Rattle.border_climb.specs.Climbs.{EndsClimb, IsFurther}
 use Rattle.border_climb.specs.Notes.{IsClimbable}
 use Rattle.border_climb.proofs.Pools.{some-map, links-noted, links-back, noted-trans, noted-climbable, climbable-higher, one-cell}
 use Rattle.border_climb.proofs.Ways.{further-same, reached-on, ends-same, waiting-further, seen-read, seen-same}
@@ -24,7 +24,7 @@ returns-in_default-clause-climbed c =
     record {
       reached = inv.reached;
       low = inv.low;
-      last = subst (λ (y : Cell). Ends c.args.region.now y.up c.args.r) (one-cell c.args.region.now c.loop-next.here.met.id _ _ inv.seen.cell inv.reached.seat.is)
+      last = subst (λ (y : Cell). EndsClimb c.args.region.now y.up c.args.r) (one-cell c.args.region.now c.loop-next.here.met.id _ _ inv.seen.cell inv.reached.seat.is)
           (ends-same _ _ (links-back _ _ same) _ _ c.in_default.ensures.none);
     }
 

@@ -1,7 +1,7 @@
 use Rattle.std.proofs.Common.{sym, subst, ℕ}
 use Rattle.std.specs.Prelude.{Option}
 use Rattle.border_climb.specs.Stands.{IsMet}
-use Rattle.border_climb.specs.Climbs.{IsBegun}
+use Rattle.border_climb.specs.Climbs.{IsClimbBegun}
 use Rattle.border_climb.specs.declared.climbing.Seen.{Seen}
 use Rattle.border_climb.proofs.Pools.{sound-climbable, sound-noted, sound-fingered, links-noted, met-same}
 use Rattle.border_climb.proofs.Ways.{top-climbed}
@@ -12,20 +12,20 @@ climb-last-requires-clause-climbable c = sound-climbable _ c.requires.sound _
 
 pub climb-last-requires-clause-seen : goal.climb-last-requires-clause-seen
 climb-last-requires-clause-seen c =
-    let begun = subst (λ (o : Option Seen). IsBegun c.args.region.now c.args.place c.args.r o) c.in_ok-start.was c.requires.begun in begun.1
+    let begun = subst (λ (o : Option Seen). IsClimbBegun c.args.region.now c.args.place c.args.r o) c.in_ok-start.was c.requires.begun in begun.1
 
 pub climb-last-requires-clause-low : goal.climb-last-requires-clause-low
 climb-last-requires-clause-low c =
-    let begun = subst (λ (o : Option Seen). IsBegun c.args.region.now c.args.place c.args.r o) c.in_ok-start.was c.requires.begun in begun.0.low
+    let begun = subst (λ (o : Option Seen). IsClimbBegun c.args.region.now c.args.place c.args.r o) c.in_ok-start.was c.requires.begun in begun.0.low
 
 pub returns-clause-top : goal.returns-clause-top
 returns-clause-top c =
-    let begun = subst (λ (o : Option Seen). IsBegun c.args.region.now c.args.place c.args.r o) c.in_ok-start.was c.requires.begun in
+    let begun = subst (λ (o : Option Seen). IsClimbBegun c.args.region.now c.args.place c.args.r o) c.in_ok-start.was c.requires.begun in
     top-climbed _ _ _ _ _ begun.0 c.climb-last.ensures.climbed
 
 pub returns-clause-sound : goal.returns-clause-sound
 returns-clause-sound c =
-    let begun = subst (λ (o : Option Seen). IsBegun c.args.region.now c.args.place c.args.r o) c.in_ok-start.was c.requires.begun in
+    let begun = subst (λ (o : Option Seen). IsClimbBegun c.args.region.now c.args.place c.args.r o) c.in_ok-start.was c.requires.begun in
     let noted = c.climb-last.ensures.noted in
     let same = links-noted c.args.region.now c.climb-last.new.region c.in_ok-start.start.met.rank noted in
     let top = top-climbed _ _ _ _ _ begun.0 c.climb-last.ensures.climbed in

@@ -1,5 +1,5 @@
 use Rattle.std.proofs.Common.{ℕ, ◌+◌, ◌<◌, ◌≤◌, ap, arith, length, get_or}
-use Rattle.component_tree.specs.NodeComponents.{leaf_parent}
+use Rattle.component_tree.specs.NodeComponents.{parent_of_leaf}
 use Rattle.partition_tree.proofs.ListsByNumber.{values_more}
 use Rattle.component_tree.proofs.components.leaf_parents.Goals as goal
 
@@ -12,5 +12,5 @@ overflow_add-leaves-in-loop-x c =
 
 pub loop-x-preserved : goal.loop-x-preserved
 loop-x-preserved c =
-    values_more (leaf_parent c.args.tree.now c.args.places.now) c.loop-x.x (c.leaves-leaves.result + get_or c.args.places.now c.loop-x.x 0) c.loop-x.parents.items c.push.new.self.items c.loop-x.invariant
+    values_more (parent_of_leaf c.args.tree.now c.args.places.now) c.loop-x.x (c.leaves-leaves.result + get_or c.args.places.now c.loop-x.x 0) c.loop-x.parents.items c.push.new.self.items c.loop-x.invariant
     (ap (λ (k : ℕ). k + get_or c.args.places.now c.loop-x.x 0) c.leaves-leaves.ensures.value) c.in_ok-push.ensures.items

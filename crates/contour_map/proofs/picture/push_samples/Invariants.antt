@@ -1,6 +1,6 @@
 use Rattle.std.proofs.Common.{◌≡◌, ◌++◌, map, take}
 use Rattle.std.specs.List.{flat_map}
-use Rattle.label_writer.specs.Report.{sample_bytes}
+use Rattle.hg_base.specs.Samples.{sample_bytes}
 use Rattle.contour_map.specs.Scaling.{scaled, greatest_sample}
 use Rattle.contour_map.proofs.picture.push_samples.Given as goal
 

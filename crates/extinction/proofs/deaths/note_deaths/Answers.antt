@@ -1,5 +1,5 @@
 use Rattle.std.proofs.Common.{◌≡◌, ◌<◌, ◌≤◌, ◌+◌, ◌-◌, ℕ, List, refl, sym, ◌∙◌, ap, subst, arith, length}
-use Rattle.extinction.specs.Values.{values_of}
+use Rattle.extinction.specs.Values.{attribute_values}
 use Rattle.extinction.specs.NodeSurvivors.{AreDeathsFrom, dying_after}
 use Rattle.extinction.proofs.OneGraph.{one-areas}
 use Rattle.extinction.proofs.NodeSurvivorLemmas.{IsAtNode, IsDeath, survivors-length, at-survivors, survivor-is_label, read-own, dying-none, dying-some, deaths-same, deaths-more, deaths-down}
@@ -8,19 +8,19 @@ use Rattle.extinction.proofs.deaths.note_deaths.Goals as goal
 pub dying-requires-clause-nodes : goal.dying-requires-clause-nodes
 dying-requires-clause-nodes c =
     ap length c.deref-in-loop-i.ensures.value
-    ∙ survivors-length c.args.tree.now c.args.minima.now (values_of c.args.kind c.args.attributes.now) c.args.survivors.now.pairs.items c.args.survivors.now.labels.items c.requires.survivors
+    ∙ survivors-length c.args.tree.now c.args.minima.now (attribute_values c.args.kind c.args.attributes.now) c.args.survivors.now.pairs.items c.args.survivors.now.labels.items c.requires.survivors
     ∙ sym (one-areas c.args.tree.now c.args.attributes.now c.args.minima.now c.requires.one)
 
 pub dying-requires-clause-first : goal.dying-requires-clause-first
 dying-requires-clause-first c =
     let long = ap length c.deref-in-loop-i.ensures.value
-    ∙ survivors-length c.args.tree.now c.args.minima.now (values_of c.args.kind c.args.attributes.now) c.args.survivors.now.pairs.items c.args.survivors.now.labels.items c.requires.survivors in
+    ∙ survivors-length c.args.tree.now c.args.minima.now (attribute_values c.args.kind c.args.attributes.now) c.args.survivors.now.pairs.items c.args.survivors.now.labels.items c.requires.survivors in
     omega (arith, long, c.children-a.ensures.first_less, c.loop-i-test.true, c.loop-i.auto.i, c.nodes-i.ensures.value)
 
 pub dying-requires-clause-second : goal.dying-requires-clause-second
 dying-requires-clause-second c =
     let long = ap length c.deref-in-loop-i.ensures.value
-    ∙ survivors-length c.args.tree.now c.args.minima.now (values_of c.args.kind c.args.attributes.now) c.args.survivors.now.pairs.items c.args.survivors.now.labels.items c.requires.survivors in
+    ∙ survivors-length c.args.tree.now c.args.minima.now (attribute_values c.args.kind c.args.attributes.now) c.args.survivors.now.pairs.items c.args.survivors.now.labels.items c.requires.survivors in
     omega (arith, long, c.children-a.ensures.second_less, c.loop-i-test.true, c.loop-i.auto.i, c.nodes-i.ensures.value)
 
 pub loop-i-preserved : goal.loop-i-preserved
@@ -28,7 +28,7 @@ loop-i-preserved c =
     let t = c.args.tree.now in
     let m = c.args.minima.now in
     let labels = c.args.survivors.now.labels.items in
-    let values = values_of c.args.kind c.args.attributes.now in
+    let values = attribute_values c.args.kind c.args.attributes.now in
     let a = c.children-a.result.0 in
     let b = c.children-a.result.1 in
     let hi : c.loop-i.i - 1 < length t.parents = omega (arith, c.loop-i-test.true, c.loop-i.auto.i, c.nodes-i.ensures.value) in
@@ -44,7 +44,7 @@ value_by-requires c =
     let t = c.args.tree.now in
     let m = c.args.minima.now in
     let labels = c.args.survivors.now.labels.items in
-    let values = values_of c.args.kind c.args.attributes.now in
+    let values = attribute_values c.args.kind c.args.attributes.now in
     let a = c.children-a.result.0 in
     let b = c.children-a.result.1 in
     let hi : c.loop-i.i - 1 < length t.parents = omega (arith, c.loop-i-test.true, c.loop-i.auto.i, c.nodes-i.ensures.value) in
@@ -61,7 +61,7 @@ bounds-values-label c =
     let t = c.args.tree.now in
     let m = c.args.minima.now in
     let labels = c.args.survivors.now.labels.items in
-    let values = values_of c.args.kind c.args.attributes.now in
+    let values = attribute_values c.args.kind c.args.attributes.now in
     let a = c.children-a.result.0 in
     let b = c.children-a.result.1 in
     let hi : c.loop-i.i - 1 < length t.parents = omega (arith, c.loop-i-test.true, c.loop-i.auto.i, c.nodes-i.ensures.value) in
@@ -80,7 +80,7 @@ loop-i-preserved-in-Some c =
     let t = c.args.tree.now in
     let m = c.args.minima.now in
     let labels = c.args.survivors.now.labels.items in
-    let values = values_of c.args.kind c.args.attributes.now in
+    let values = attribute_values c.args.kind c.args.attributes.now in
     let a = c.children-a.result.0 in
     let b = c.children-a.result.1 in
     let hi : c.loop-i.i - 1 < length t.parents = omega (arith, c.loop-i-test.true, c.loop-i.auto.i, c.nodes-i.ensures.value) in
@@ -98,4 +98,4 @@ loop-i-preserved-in-Some c =
 
 pub returns : goal.returns
 returns c =
-    deaths-down c.args.tree.now c.args.minima.now (values_of c.args.kind c.args.attributes.now) c.args.survivors.now.labels.items c.loop-i.values c.nodes-i.ensures.well_formed c.loop-i.i (omega (arith, c.loop-i-test.false, c.leaves-i-start.ensures.value)) (omega (arith, c.leaves-i-start.ensures.value, c.leaves-i-start.ensures.within)) c.loop-i.invariant
+    deaths-down c.args.tree.now c.args.minima.now (attribute_values c.args.kind c.args.attributes.now) c.args.survivors.now.labels.items c.loop-i.values c.nodes-i.ensures.well_formed c.loop-i.i (omega (arith, c.loop-i-test.false, c.leaves-i-start.ensures.value)) (omega (arith, c.leaves-i-start.ensures.value, c.leaves-i-start.ensures.within)) c.loop-i.invariant

@@ -1,5 +1,5 @@
 use Rattle.std.proofs.Common.{◌≡◌, ◌<◌, ◌+◌, ◌-◌, ℕ, refl, sym, ◌∙◌, subst, inl, inr, arith, length}
-use Rattle.extinction.specs.Values.{values_of}
+use Rattle.extinction.specs.Values.{attribute_values}
 use Rattle.extinction.specs.NodeSurvivors.{AreRootsFrom}
 use Rattle.extinction.proofs.OneGraph.{one-areas}
 use Rattle.extinction.proofs.NodeSurvivorLemmas.{survivors-length, survivor-is_label, read-own, roots-same, roots-more}
@@ -8,7 +8,7 @@ use Rattle.extinction.proofs.deaths.note_roots.Goals.{else-label-ne0-via-then-la
 
 pub index-label-requires : goal.index-label-requires
 index-label-requires c =
-    let long = survivors-length c.args.tree.now c.args.minima.now (values_of c.args.kind c.args.attributes.now) c.args.survivors.now.pairs.items c.args.survivors.now.labels.items c.requires.survivors in
+    let long = survivors-length c.args.tree.now c.args.minima.now (attribute_values c.args.kind c.args.attributes.now) c.args.survivors.now.pairs.items c.args.survivors.now.labels.items c.requires.survivors in
     omega (arith, long, c.args.survivors.now.labels.ok.0, c.loop-i-test.true, c.loop-i.auto.i, c.nodes-i.ensures.value)
 
 pub value_by-requires : goal.value_by-requires
@@ -20,7 +20,7 @@ pub bounds-values-label : goal.bounds-values-label
 bounds-values-label c =
     let t = c.args.tree.now in
     let labels = c.args.survivors.now.labels.items in
-    let values = values_of c.args.kind c.args.attributes.now in
+    let values = attribute_values c.args.kind c.args.attributes.now in
     let long = survivors-length t c.args.minima.now values c.args.survivors.now.pairs.items labels c.requires.survivors in
     let hi : c.loop-i.i - 1 < length t.parents = omega (arith, c.loop-i-test.true, c.loop-i.auto.i, c.nodes-i.ensures.value) in
     let own = read-own labels (c.loop-i.i - 1) c.index-label.result.now (omega (arith, hi, long)) c.index-label.ensures in
@@ -33,7 +33,7 @@ loop-i-preserved-then-parent-i c =
     let m = c.args.minima.now in
     let i : ℕ = c.loop-i.i - 1 in
     let labels = c.args.survivors.now.labels.items in
-    let values = values_of c.args.kind c.args.attributes.now in
+    let values = attribute_values c.args.kind c.args.attributes.now in
     let long = survivors-length t m values c.args.survivors.now.pairs.items labels c.requires.survivors in
     let hi : c.loop-i.i - 1 < length t.parents = omega (arith, c.loop-i-test.true, c.loop-i.auto.i, c.nodes-i.ensures.value) in
     let own = read-own labels (c.loop-i.i - 1) c.index-label.result.now (omega (arith, hi, long)) c.index-label.ensures in
@@ -47,7 +47,7 @@ loop-i-preserved c =
     let t = c.args.tree.now in
     let m = c.args.minima.now in
     let labels = c.args.survivors.now.labels.items in
-    let values = values_of c.args.kind c.args.attributes.now in
+    let values = attribute_values c.args.kind c.args.attributes.now in
     let long = survivors-length t m values c.args.survivors.now.pairs.items labels c.requires.survivors in
     let hi : c.loop-i.i - 1 < length t.parents = omega (arith, c.loop-i-test.true, c.loop-i.auto.i, c.nodes-i.ensures.value) in
     let own = read-own labels (c.loop-i.i - 1) c.index-label.result.now (omega (arith, hi, long)) c.index-label.ensures in

@@ -1,5 +1,5 @@
 use Rattle.std.proofs.Common.{◌<◌, ◌≤◌, ℕ, List, sym, ◌∙◌, ap, arith, length}
-use Rattle.extinction.specs.Values.{values_of}
+use Rattle.extinction.specs.Values.{attribute_values}
 use Rattle.extinction.specs.NodeSurvivors.{value_after}
 use Rattle.extinction.proofs.OneGraph.{one-areas, persistences-graph}
 use Rattle.extinction.proofs.NodeSurvivorLemmas.{survivors-length, at-survivors, persist-more, persist-all}
@@ -8,26 +8,26 @@ use Rattle.extinction.proofs.persist.by_survivors.Goals as goal
 pub value-requires-clause-nodes : goal.value-requires-clause-nodes
 value-requires-clause-nodes c =
     ap length c.deref-in-loop-i.ensures.value
-    ∙ survivors-length c.args.tree.now c.args.minima.now (values_of c.args.kind c.args.attributes.now) c.in_ok-survivors.survivors.pairs.items c.in_ok-survivors.survivors.labels.items c.in_ok-survivors.ensures
+    ∙ survivors-length c.args.tree.now c.args.minima.now (attribute_values c.args.kind c.args.attributes.now) c.in_ok-survivors.survivors.pairs.items c.in_ok-survivors.survivors.labels.items c.in_ok-survivors.ensures
     ∙ sym (one-areas c.args.tree.now c.args.attributes.now c.args.minima.now c.requires)
 
 pub value-requires-clause-first : goal.value-requires-clause-first
 value-requires-clause-first c =
     let long = ap length c.deref-in-loop-i.ensures.value
-    ∙ survivors-length c.args.tree.now c.args.minima.now (values_of c.args.kind c.args.attributes.now) c.in_ok-survivors.survivors.pairs.items c.in_ok-survivors.survivors.labels.items c.in_ok-survivors.ensures in
+    ∙ survivors-length c.args.tree.now c.args.minima.now (attribute_values c.args.kind c.args.attributes.now) c.in_ok-survivors.survivors.pairs.items c.in_ok-survivors.survivors.labels.items c.in_ok-survivors.ensures in
     omega (arith, long, c.children-a.ensures.first_less, c.loop-i-test.true, c.nodes-nodes.ensures.value)
 
 pub value-requires-clause-second : goal.value-requires-clause-second
 value-requires-clause-second c =
     let long = ap length c.deref-in-loop-i.ensures.value
-    ∙ survivors-length c.args.tree.now c.args.minima.now (values_of c.args.kind c.args.attributes.now) c.in_ok-survivors.survivors.pairs.items c.in_ok-survivors.survivors.labels.items c.in_ok-survivors.ensures in
+    ∙ survivors-length c.args.tree.now c.args.minima.now (attribute_values c.args.kind c.args.attributes.now) c.in_ok-survivors.survivors.pairs.items c.in_ok-survivors.survivors.labels.items c.in_ok-survivors.ensures in
     omega (arith, long, c.children-a.ensures.second_less, c.loop-i-test.true, c.nodes-nodes.ensures.value)
 
 pub loop-i-preserved : goal.loop-i-preserved
 loop-i-preserved c =
     let t = c.args.tree.now in
     let m = c.args.minima.now in
-    let values = values_of c.args.kind c.args.attributes.now in
+    let values = attribute_values c.args.kind c.args.attributes.now in
     let s = c.in_ok-survivors.survivors in
     let i = c.loop-i.i in
     let a = c.children-a.result.0 in
@@ -40,5 +40,5 @@ loop-i-preserved c =
 
 pub returns : goal.returns
 returns c = λ g o.
-    persist-all c.args.tree.now c.args.minima.now (values_of c.args.kind c.args.attributes.now) c.loop-i.values.items c.nodes-nodes.ensures.well_formed c.loop-i.i c.leaves-leaves.result c.leaves-leaves.ensures.value (omega arith) c.loop-i.invariant
+    persist-all c.args.tree.now c.args.minima.now (attribute_values c.args.kind c.args.attributes.now) c.loop-i.values.items c.nodes-nodes.ensures.well_formed c.loop-i.i c.leaves-leaves.result c.leaves-leaves.ensures.value (omega arith) c.loop-i.invariant
     ∙ persistences-graph g c.args.tree.now c.args.attributes.now c.args.minima.now c.args.kind o

@@ -1,13 +1,13 @@
 use Rattle.std.proofs.Common.{◌≤◌, ◌-◌, length, take}
 use Rattle.input_tokens.specs.declared.text.Text.TheVariants.{Number}
 use Rattle.input_tokens.specs.declared.lexer.Lexer.TheVariants.{Inside}
-use Rattle.input_tokens.specs.Lexing.{IsBegun, GoesOn}
+use Rattle.input_tokens.specs.Lexing.{BeginsToken, GoesOn}
 use Rattle.input_tokens.proofs.runs.read_digits.Given as goal
 
 abbrev pub invariant-loop-count : goal.invariant-loop-count
 invariant-loop-count l = record {
   within : l.count ≤ length l.piece;
-  valid : IsBegun (Number l.all l.sum);
+  valid : BeginsToken (Number l.all l.sum);
   goes : GoesOn (Inside l.at (Number l.digits l.value)) (Inside l.at (Number l.all l.sum)) (take l.count l.piece);
 }
 

@@ -1,5 +1,5 @@
 use Rattle.std.proofs.Common.{◌≡◌, ℕ, ◌++◌, subst}
-use Rattle.label_writer.specs.Report.{sample_bytes}
+use Rattle.hg_base.specs.Samples.{sample_bytes}
 use Rattle.label_writer.proofs.WriterLemmas.{next_sample}
 use Rattle.label_writer.proofs.picture.push_samples.Goals as goal
 

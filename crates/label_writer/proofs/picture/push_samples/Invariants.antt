@@ -1,6 +1,6 @@
 use Rattle.std.proofs.Common.{◌≡◌, ◌++◌, take}
 use Rattle.std.specs.List.{flat_map}
-use Rattle.label_writer.specs.Report.{sample_bytes}
+use Rattle.hg_base.specs.Samples.{sample_bytes}
 use Rattle.label_writer.proofs.picture.push_samples.Given as goal
 
 -- the samples of the labels so far are written

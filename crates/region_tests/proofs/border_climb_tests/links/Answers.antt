@@ -3,7 +3,7 @@ use Rattle.edge_laws.specs.Edges.{ListedEdge}
 use Rattle.hg_base.specs.Lists.{IsIn}
 use Rattle.hg_base.specs.declared.graph.PlacedEdge.{PlacedEdge}
 use Rattle.node_region.specs.Pool.{IsCovered, fresh_pool}
-use Rattle.border_climb.specs.Parts.{listed}
+use Rattle.border_climb.specs.Parts.{as_listed}
 use Rattle.region_tests.proofs.border_climb_tests.links.Goals as goal
 
 covered : (x : ℕ) → x < 4 → IsCovered (fresh_pool 0 4 (record { places = 4; chunks = 1 })) x
@@ -22,7 +22,7 @@ abbrev Differs : ℕ → List PlacedEdge → Type 0
 Differs r [] = Unit {0}
 Differs r (x ∷ xs) = (r ≢ x.rank) × Differs r xs
 
-new-rank : (r : ℕ) (xs : List PlacedEdge) → Differs r xs → (g : ListedEdge) → IsIn g (map listed xs) → r ≡ g.rank → ⊥
+new-rank : (r : ℕ) (xs : List PlacedEdge) → Differs r xs → (g : ListedEdge) → IsIn g (map as_listed xs) → r ≡ g.rank → ⊥
 new-rank r [] d g none eq = none
 new-rank r (x ∷ xs) d g (inl same) eq = d.0 (eq ∙ sym (ap (λ (y : ListedEdge). y.rank) same))
 new-rank r (x ∷ xs) d g (inr later) eq = new-rank r xs d.1 g later eq

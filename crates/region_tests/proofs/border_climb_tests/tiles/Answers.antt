@@ -4,7 +4,7 @@ use Rattle.hg_base.specs.declared.graph.PlacedEdge.{PlacedEdge}
 use Rattle.node_region.specs.Pool.{CellPool, IsCovered}
 use Rattle.border_climb.specs.Stands.{PartState}
 use Rattle.border_climb.specs.Splicing.{KeepsRange}
-use Rattle.border_climb.specs.Parts.{listed, Crosses}
+use Rattle.border_climb.specs.Parts.{as_listed, Crosses}
 use Rattle.region_tests.proofs.Checked.{apart-tested}
 use Rattle.border_climb.proofs.Parts.{covered-on}
 use Rattle.region_tests.proofs.border_climb_tests.tiles.Goals as goal
@@ -26,12 +26,12 @@ pub join-whole-requires-clause-lists : goal.join-whole-requires-clause-lists
 join-whole-requires-clause-lists g c =
     let left = built _ _ c.build_tile-left.result.region c.in_ok-left.ensures.part c.build_tile-left.ensures.range in
     let right = built _ _ c.build_tile-right.result.region c.in_ok-right.ensures.part c.build_tile-right.ensures.range in (
-      listed (edge 2 0 1) ∷ [],
+      as_listed (edge 2 0 1) ∷ [],
       (
-        listed (edge 3 2 3) ∷ [],
+        as_listed (edge 3 2 3) ∷ [],
         record {
-          left_stands = c.build_tile-left.ensures.stands (listed (edge 2 0 1) ∷ []) refl;
-          right_stands = c.build_tile-right.ensures.stands (listed (edge 3 2 3) ∷ []) refl;
+          left_stands = c.build_tile-left.ensures.stands (as_listed (edge 2 0 1) ∷ []) refl;
+          right_stands = c.build_tile-right.ensures.stands (as_listed (edge 3 2 3) ∷ []) refl;
           crosses = both-cross c.build_tile-left.result.region c.build_tile-right.result.region (edge 0 1 2) (edge 1 0 3)
               (left 1 (omega arith, omega arith)) (right 2 (omega arith, omega arith)) (left 0 (omega arith, omega arith)) (right 3 (omega arith, omega arith));
           apart = apart-tested (edge 2 0 1 ∷ edge 3 2 3 ∷ edge 0 1 2 ∷ edge 1 0 3 ∷ []) refl;

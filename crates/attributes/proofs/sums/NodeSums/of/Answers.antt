@@ -1,7 +1,7 @@
 use Rattle.std.proofs.Common.{◌*◌, ◌<◌, ◌^◌, ℕ, sym, subst, get_or, All}
 use Rattle.std.specs.List.{range_with_len}
 use Rattle.attributes.specs.Attributes.{area, floor}
-use Rattle.attributes.proofs.Totals.{IsTreeOf, tree-of_graph}
+use Rattle.attributes.proofs.Totals.{HasGraphTree, tree-of_graph}
 use Rattle.attributes.proofs.AttributesOfGraph.{AreLeafValues, floors-light, leaf-values, leaf-length, areas-fit, products-fit, lowest-fit, node-values}
 use Rattle.attributes.proofs.sums.NodeSums.of.Goals as goal
 
@@ -15,7 +15,7 @@ gathered-requires c =
     let g = c.args.graph.now in
     let t = c.args.tree.now in
     let read = c.in_ok-floors.ensures.read in
-    let k : IsTreeOf g t = tree-of_graph g t c.requires read in
+    let k : HasGraphTree g t = tree-of_graph g t c.requires read in
     let v : AreLeafValues g t c.in_ok-floors.floors.items c.in_ok-areas.areas.items c.in_ok-products.products.items =
     leaf-values g t c.in_ok-floors.floors.items c.in_ok-areas.areas.items c.in_ok-products.products.items c.deref-2.result.now c.deref.result.now k.leaves read
     c.in_ok-floors.ensures.floors c.in_ok-areas.ensures.areas c.in_ok-areas.ensures.small c.deref-2.ensures.value c.deref.ensures.value c.in_ok-products.ensures in
@@ -29,7 +29,7 @@ gathered-requires-2 c =
     let g = c.args.graph.now in
     let t = c.args.tree.now in
     let read = c.in_ok-floors.ensures.read in
-    let k : IsTreeOf g t = tree-of_graph g t c.requires read in
+    let k : HasGraphTree g t = tree-of_graph g t c.requires read in
     let v : AreLeafValues g t c.in_ok-floors.floors.items c.in_ok-areas.areas.items c.in_ok-products.products.items =
     leaf-values g t c.in_ok-floors.floors.items c.in_ok-areas.areas.items c.in_ok-products.products.items c.deref-2.result.now c.deref.result.now k.leaves read
     c.in_ok-floors.ensures.floors c.in_ok-areas.ensures.areas c.in_ok-areas.ensures.small c.deref-2.ensures.value c.deref.ensures.value c.in_ok-products.ensures in
@@ -43,7 +43,7 @@ gathered-requires-3 c =
     let g = c.args.graph.now in
     let t = c.args.tree.now in
     let read = c.in_ok-floors.ensures.read in
-    let k : IsTreeOf g t = tree-of_graph g t c.requires read in
+    let k : HasGraphTree g t = tree-of_graph g t c.requires read in
     let v : AreLeafValues g t c.in_ok-floors.floors.items c.in_ok-areas.areas.items c.in_ok-products.products.items =
     leaf-values g t c.in_ok-floors.floors.items c.in_ok-areas.areas.items c.in_ok-products.products.items c.deref-2.result.now c.deref.result.now k.leaves read
     c.in_ok-floors.ensures.floors c.in_ok-areas.ensures.areas c.in_ok-areas.ensures.small c.deref-2.ensures.value c.deref.ensures.value c.in_ok-products.ensures in
@@ -57,7 +57,7 @@ returns-clause-sums c =
     let g = c.args.graph.now in
     let t = c.args.tree.now in
     let read = c.in_ok-floors.ensures.read in
-    let k : IsTreeOf g t = tree-of_graph g t c.requires read in
+    let k : HasGraphTree g t = tree-of_graph g t c.requires read in
     let v : AreLeafValues g t c.in_ok-floors.floors.items c.in_ok-areas.areas.items c.in_ok-products.products.items =
     leaf-values g t c.in_ok-floors.floors.items c.in_ok-areas.areas.items c.in_ok-products.products.items c.deref-2.result.now c.deref.result.now k.leaves read
     c.in_ok-floors.ensures.floors c.in_ok-areas.ensures.areas c.in_ok-areas.ensures.small c.deref-2.ensures.value c.deref.ensures.value c.in_ok-products.ensures in

@@ -1,7 +1,7 @@
 use Rattle.std.proofs.Common.{ap, subst, sym, refl, ◌+◌, ◌≤◌, ◌^◌, arith}
 use Rattle.border_climb.specs.Stands.{PartState}
 use Rattle.border_climb.specs.Splicing.{KeepsRange, IsLinkedList}
-use Rattle.border_climb.specs.Parts.{listed}
+use Rattle.border_climb.specs.Parts.{as_listed}
 use Rattle.border_climb.proofs.Parts.{list-Stands, given-small, stands-spliced, answer-told}
 use Rattle.border_climb.proofs.part.Part.give.Goals as goal
 
@@ -29,4 +29,4 @@ returns-clause-stands c = λ f s is st fresh.
 pub returns-clause-answer : goal.returns-clause-answer
 returns-clause-answer c = λ s st fresh.
     answer-told s c.args.e c.splice-answer.result
-    (c.splice-answer.ensures.spliced (listed c.args.e) s refl (subst (λ (p : PartState). IsLinkedList p.region s c.args.e.rank) (sym c.self.view_is) (list-Stands c.args.self.now s c.args.e.rank st fresh))).told
+    (c.splice-answer.ensures.spliced (as_listed c.args.e) s refl (subst (λ (p : PartState). IsLinkedList p.region s c.args.e.rank) (sym c.self.view_is) (list-Stands c.args.self.now s c.args.e.rank st fresh))).told

@@ -1,5 +1,5 @@
 use Rattle.std.proofs.Common.{◌<◌, ◌≤◌, ℕ, List, refl, sym, ◌∙◌, ap, arith, length, get_or}
-use Rattle.extinction.specs.Values.{values_of}
+use Rattle.extinction.specs.Values.{attribute_values}
 use Rattle.extinction.specs.NodeSurvivors.{label_after}
 use Rattle.extinction.proofs.OneGraph.{one-two, one-areas}
 use Rattle.extinction.proofs.NodeSurvivorLemmas.{IsAtNode, at-node, survivors-first, survivors-more, survivors-all, label-after}
@@ -9,7 +9,7 @@ pub child_pairs-requires : goal.child_pairs-requires
 child_pairs-requires c = one-two c.args.tree.now c.args.attributes.now c.args.minima.now c.requires
 
 pub loop-i-init : goal.loop-i-init
-loop-i-init c = survivors-first c.args.tree.now c.args.minima.now (values_of c.args.kind c.args.attributes.now) c.nodes-i-end.ensures.well_formed c.leaves-i.result c.in_ok-labels.labels.items c.leaves-i.ensures.value c.in_ok-labels.ensures
+loop-i-init c = survivors-first c.args.tree.now c.args.minima.now (attribute_values c.args.kind c.args.attributes.now) c.nodes-i-end.ensures.well_formed c.leaves-i.result c.in_ok-labels.labels.items c.leaves-i.ensures.value c.in_ok-labels.ensures
 
 pub survivor-label-requires-clause-nodes : goal.survivor-label-requires-clause-nodes
 survivor-label-requires-clause-nodes c = ap length c.deref-in-loop-i.ensures.value ∙ c.loop-i.invariant.one_each ∙ sym (one-areas c.args.tree.now c.args.attributes.now c.args.minima.now c.requires)
@@ -18,7 +18,7 @@ pub loop-i-preserved : goal.loop-i-preserved
 loop-i-preserved c =
     let t = c.args.tree.now in
     let m = c.args.minima.now in
-    let values = values_of c.args.kind c.args.attributes.now in
+    let values = attribute_values c.args.kind c.args.attributes.now in
     let i = c.loop-i.i in
     let labels = c.loop-i.labels.items in
     let a = c.children-a.result.0 in
@@ -32,7 +32,7 @@ loop-i-preserved c =
 
 pub returns : goal.returns
 returns c =
-    let values = values_of c.args.kind c.args.attributes.now in record {
+    let values = attribute_values c.args.kind c.args.attributes.now in record {
       pairs_are = c.in_ok-pairs.ensures;
       labels_are = survivors-all c.args.tree.now c.args.minima.now values c.loop-i.i c.loop-i.labels.items (omega (arith, c.loop-i-test.false, c.nodes-i-end.ensures.value)) c.loop-i.invariant;
     }

@@ -1,5 +1,5 @@
 use Rattle.std.proofs.Common.{refl, sym, ap, ◌∙◌, length}
-use Rattle.node_region.specs.Tables.{slots_of, number_at}
+use Rattle.node_region.specs.Tables.{slots_of, entry_number}
 use Rattle.std.proofs.lemmas.List.{length-set}
 use Rattle.node_region.specs.declared.chunk.Chunk.{Chunk}
 use Rattle.node_region.proofs.Rows.{slot-written, row-written, flat_map-set_same}
@@ -20,4 +20,4 @@ invariant_of-self-clause-in_row c =
 pub invariant_of-self-clause-counted : goal.invariant_of-self-clause-counted
 invariant_of-self-clause-counted c =
     let written = slot-written c.args.self.now.chunks.items c.args.at c.requires c.index_mut-chunk.result.now _ c.args.slot c.index_mut-chunk.ensures.value refl in
-    c.args.self.now.counted ∙ sym (ap length written ∙ length-set (slots_of c.args.self.now.chunks.items) (number_at c.args.self.now.chunks.items c.args.at) c.args.slot)
+    c.args.self.now.counted ∙ sym (ap length written ∙ length-set (slots_of c.args.self.now.chunks.items) (entry_number c.args.self.now.chunks.items c.args.at) c.args.slot)

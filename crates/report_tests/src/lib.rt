@@ -15,8 +15,6 @@ mod energy_cut_worked;
 #[cfg(test)]
 mod extinction_tests;
 #[cfg(test)]
-mod graphs;
-#[cfg(test)]
 mod label_writer_tests;
 #[cfg(test)]
 mod report_lines_tests;

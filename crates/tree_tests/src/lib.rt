@@ -6,8 +6,6 @@ mod forest_witness_tests;
 #[cfg(test)]
 mod graph_hierarchy_tests;
 #[cfg(test)]
-mod graphs;
-#[cfg(test)]
 mod partition_tree_tests;
 #[cfg(test)]
 mod quasi_flat_zones_tests;

@@ -1,6 +1,5 @@
 ghost use Rattle.partition_tree.specs.Ranked.{IsRankedList};
 
-use crate::graphs::{APART, RANKED_PATH, TRIANGLE, graph_of};
 use hg_base::OutOfMemory;
 use partition_tree::{Ranked, Tree};
 use saliency::{
@@ -10,6 +9,7 @@ use std::alloc::Global;
 use std::process::Abort;
 use std::test::Fail;
 use std::thread::Threads;
+use worked_graphs::{APART, PATH, TRIANGLE, graph_of};
 
 // The edges of a cycle of four vertices, in order of rank.
 const RING: [Ranked; 4] = [
@@ -99,7 +99,7 @@ fn saliencies(rt: HostRuntime) -> Result<(), Fail> {
 
 #[test]
 fn regions(rt: HostRuntime) -> Result<(), Fail> {
-    assert_cut(&rt, rt.alloc(), 4, &RANKED_PATH, 1, &[1, 1, 2, 3])?;
+    assert_cut(&rt, rt.alloc(), 4, &PATH, 1, &[1, 1, 2, 3])?;
     assert_cut(&rt, rt.alloc(), 3, &APART, 4, &[1, 1, 2])?;
     Ok(())
 }

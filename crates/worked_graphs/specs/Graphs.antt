@@ -1,4 +1,4 @@
--- Graphs of the tests.
+-- Graphs of small rows.
 use Rattle.std.specs.Prelude.{ℕ, List, map}
 use Rattle.hg_base.specs.Graph.{WeightedGraph}
 use Rattle.tree_laws.specs.Worked.{edge}

@@ -6,6 +6,10 @@ use Rattle.label_writer.specs.Report.{header}
 use Rattle.contour_map.specs.Contours.{PointGrid}
 use Rattle.contour_map.specs.Scaling.{highest, scaled, greatest_sample}
 
+-- the bytes of the samples of points, among which this is the highest value
+abbrev pub samples_of : ℕ → List ℕ → List ℕ
+samples_of high points = flat_map (sample_bytes (greatest_sample high)) (map (scaled high) points)
+
 -- the picture whose pixels are the points of the map
 abbrev pub contours_picture : PointGrid → List ℕ
 contours_picture m =

@@ -4,7 +4,7 @@ ghost use Rattle.saliency.specs.Values.{EndsShareRoots};
 ghost use Rattle.contour_map.specs.Drawn.{AreContoursIn};
 
 use crate::map::ContourMap;
-use crate::picture::write_contours;
+use crate::picture::write_contours_in_threads;
 use hg_base::{Graph, OutOfMemory};
 use partition_tree::Tree;
 use pgm_reader::Picture;
@@ -29,6 +29,6 @@ pub fn draw_contours(
     ensures { IfOk result (λ bytes. AreContoursIn picture.now tree.now bytes.items) }
 {
     let values = saliency_in_threads(rt, alloc, graph, tree)?;
-    let map = ContourMap::of(alloc, picture.width(), picture.height(), &values)?;
-    write_contours(alloc, &map)
+    let map = ContourMap::of_in_threads(rt, alloc, picture.width(), picture.height(), &values)?;
+    write_contours_in_threads(rt, alloc, &map)
 }

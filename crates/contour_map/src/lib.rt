@@ -11,4 +11,4 @@ mod scaling;
 pub use drawn::draw_contours;
 pub use laws::{contours_are_of_edges, scaling_keeps_the_order};
 pub use map::ContourMap;
-pub use picture::write_contours;
+pub use picture::{write_contours, write_contours_in_threads};

@@ -127,7 +127,7 @@ fn hierarchy_contours(
     requires tree { IsTreeOf graph.now tree.now }
     ensures { IfOk result (λ bytes. AreContoursIn picture.now (hierarchical_of graph.now kind) bytes.items) }
 {
-    let basins = Basins::of(alloc, graph, order, tree)?;
+    let basins = Basins::of(rt, alloc, graph, order, tree)?;
     let hierarchy = basins.hierarchy(alloc, graph, tree, kind)?;
     draw_contours(rt, alloc, picture, graph, &hierarchy)
 }

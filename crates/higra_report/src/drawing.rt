@@ -85,12 +85,13 @@ fn drawing<G: Gate>(
         tree,
         receipt,
     } = pixels_hierarchy(rt, alloc, picture, &graph, tile, workers, gate)?;
-    let pieces = draw_report(alloc, request.report, &graph, &order, &tree, picture)?;
+    let pieces = draw_report(rt, alloc, request.report, &graph, &order, &tree, picture)?;
     Ok((pieces, receipt))
 }
 
 // The picture of the labels of a report about a picture, whose graph, order and tree these are.
 fn draw_report(
+    rt: &(impl Threads + Sync),
     alloc: Global,
     report: Report,
     graph: &Graph,
@@ -107,7 +108,7 @@ fn draw_report(
     match report {
         Report::Watershed => draw_watershed(alloc, graph, order, tree, picture),
         Report::Cut(kind, level) => {
-            draw_regions(alloc, graph, order, tree, kind, level, picture)
+            draw_regions(rt, alloc, graph, order, tree, kind, level, picture)
         }
         Report::Energy(penalty) => draw_energy_cut(alloc, graph, tree, penalty, picture),
         Report::Tree
@@ -125,6 +126,7 @@ fn draw_report(
 // The picture of the labels of the regions at a level.
 #[tactic(auto, using(crate::proofs::DrawingLemmas::region_pixels))]
 fn draw_regions(
+    rt: &(impl Threads + Sync),
     alloc: Global,
     graph: &Graph,
     order: &Order,
@@ -138,7 +140,7 @@ fn draw_regions(
     requires tree { IsTreeOf graph.now tree.now }
     ensures { IsDrawn (regions (cut_tree kind graph.now) level) picture.now result }
 {
-    let labels = regions(alloc, graph, order, tree, kind, level)?;
+    let labels = regions(rt, alloc, graph, order, tree, kind, level)?;
     draw(alloc, &labels, picture)
 }
 

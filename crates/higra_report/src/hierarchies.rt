@@ -11,6 +11,7 @@ ghost use Rattle.watershed_cut.specs.MinimumLabels.{minima_of};
 ghost use Rattle.graph_hierarchy.specs.Hierarchies.{IsTreeOf};
 ghost use Rattle.higra_report.specs.Reports.{cut_tree, graph_energies, regions};
 
+use super::sides::is_large;
 use attributes::Attributes;
 use edge_order::Order;
 use energy_cut::node_energies;
@@ -19,6 +20,7 @@ use hg_base::{Graph, Kind, Labels, OutOfMemory};
 use partition_tree::Tree;
 use saliency::cut;
 use std::alloc::{AllocError, Global};
+use std::thread::{Threads, join};
 use watershed_cut::Minima;
 
 /// The minima of a graph, and the attributes of the nodes of its tree.
@@ -29,8 +31,10 @@ pub struct Basins {
 }
 
 impl Basins {
-    /// Those of a graph, of which order and tree are its own. The error is want of memory.
+    /// Those of a graph, of which order and tree are its own, found side by side where it has many edges. The error is
+    /// want of memory.
     pub fn of(
+        rt: &(impl Threads + Sync),
         alloc: Global,
         graph: &Graph,
         order: &Order,
@@ -41,6 +45,9 @@ impl Basins {
         ensures attributes { IfOk result (λ basins. basins.attributes ≡ attributes_of graph.now) }
         ensures minima { IfOk result (λ basins. basins.minima ≡ minima_of graph.now) }
     {
+        if is_large(graph) {
+            return side_by_side(rt, alloc, graph, order, tree);
+        }
         let attributes = Attributes::of(alloc, graph, tree)?;
         let minima = Minima::of(alloc, graph, order, tree)?;
         Ok(Basins { attributes, minima })
@@ -81,9 +88,89 @@ impl Basins {
     }
 }
 
+// The basins of a graph, whose attributes and minima are found side by side.
+fn side_by_side(
+    rt: &(impl Threads + Sync),
+    alloc: Global,
+    graph: &Graph,
+    order: &Order,
+    tree: &Tree,
+) -> Result<Basins, OutOfMemory>
+    requires order { order.now ≡ order_of graph.now }
+    requires tree { tree.now ≡ graph_tree graph.now }
+    ensures attributes { IfOk result (λ basins. basins.attributes ≡ attributes_of graph.now) }
+    ensures minima { IfOk result (λ basins. basins.minima ≡ minima_of graph.now) }
+{
+    let attributes = || -> Result<Attributes, OutOfMemory>
+        requires { tree.now ≡ graph_tree graph.now }
+        ensures { IfOk result (λ attributes. attributes ≡ attributes_of graph.entry.now) }
+    { Attributes::of(alloc, graph, tree) };
+    let minima = || -> Result<Minima, OutOfMemory>
+        requires { (order.now ≡ order_of graph.now) × (tree.now ≡ graph_tree graph.now) }
+        ensures { IfOk result (λ minima. minima ≡ minima_of graph.entry.now) }
+    { Minima::of(alloc, graph, order, tree) };
+    let (attributes, minima) = join(rt, attributes, minima);
+    Ok(Basins {
+        attributes: attributes?,
+        minima: minima?,
+    })
+}
+
+/// The hierarchical watershed of a graph by a kind and the extinctions of its minima, found side by side where the graph is
+/// large. The error is want of memory.
+pub(crate) fn hierarchy_and_extinctions(
+    rt: &(impl Threads + Sync),
+    alloc: Global,
+    graph: &Graph,
+    tree: &Tree,
+    basins: &Basins,
+    kind: Kind,
+) -> Result<(Tree, Vec<u64>), OutOfMemory>
+    requires tree { IsTreeOf graph.now tree.now }
+    requires attributes { basins.now.attributes ≡ attributes_of graph.now }
+    requires minima { basins.now.minima ≡ minima_of graph.now }
+    ensures hierarchy { IfOk result (λ found. found.0 ≡ hierarchical_of graph.now kind) }
+    ensures extinctions { IfOk result (λ found. found.1.items ≡ extinctions_of graph.now kind) }
+{
+    if is_large(graph) {
+        return hierarchy_beside_extinctions(rt, alloc, graph, tree, basins, kind);
+    }
+    let values = basins.extinctions(alloc, graph, tree, kind)?;
+    let hierarchy = basins.hierarchy(alloc, graph, tree, kind)?;
+    Ok((hierarchy, values))
+}
+
+// The hierarchical watershed, and beside it the extinctions.
+fn hierarchy_beside_extinctions(
+    rt: &(impl Threads + Sync),
+    alloc: Global,
+    graph: &Graph,
+    tree: &Tree,
+    basins: &Basins,
+    kind: Kind,
+) -> Result<(Tree, Vec<u64>), OutOfMemory>
+    requires tree { IsTreeOf graph.now tree.now }
+    requires attributes { basins.now.attributes ≡ attributes_of graph.now }
+    requires minima { basins.now.minima ≡ minima_of graph.now }
+    ensures hierarchy { IfOk result (λ found. found.0 ≡ hierarchical_of graph.now kind) }
+    ensures extinctions { IfOk result (λ found. found.1.items ≡ extinctions_of graph.now kind) }
+{
+    let values = || -> Result<Vec<u64>, OutOfMemory>
+        requires { IsTreeOf graph.now tree.now × (basins.now.attributes ≡ attributes_of graph.now) × (basins.now.minima ≡ minima_of graph.now) }
+        ensures { IfOk result (λ values. values.items ≡ extinctions_of graph.entry.now kind) }
+    { basins.extinctions(alloc, graph, tree, kind) };
+    let hierarchy = || -> Result<Tree, OutOfMemory>
+        requires { (tree.now ≡ graph_tree graph.now) × (basins.now.attributes ≡ attributes_of graph.now) × (basins.now.minima ≡ minima_of graph.now) }
+        ensures { IfOk result (λ hierarchy. hierarchy ≡ hierarchical_of graph.entry.now kind) }
+    { basins.hierarchy(alloc, graph, tree, kind) };
+    let (values, hierarchy) = join(rt, values, hierarchy);
+    Ok((hierarchy?, values?))
+}
+
 /// The labels of the regions of a graph's own tree, or of its hierarchical watershed by a kind, at a level.
 #[tactic(auto, using(crate::proofs::CutLemmas::regions_own, crate::proofs::CutLemmas::regions_by))]
 pub(crate) fn regions(
+    rt: &(impl Threads + Sync),
     alloc: Global,
     graph: &Graph,
     order: &Order,
@@ -98,7 +185,7 @@ pub(crate) fn regions(
     match kind {
         None => cut(alloc, tree, level),
         Some(kind) => {
-            let basins = Basins::of(alloc, graph, order, tree)?;
+            let basins = Basins::of(rt, alloc, graph, order, tree)?;
             let hierarchy = basins.hierarchy(alloc, graph, tree, kind)?;
             cut(alloc, &hierarchy, level)
         }

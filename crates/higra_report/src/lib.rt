@@ -4,8 +4,10 @@
 mod components;
 mod drawing;
 mod fault;
+mod findings;
 mod hierarchies;
 mod planning;
+mod sides;
 mod summary;
 mod texts;
 mod writing;

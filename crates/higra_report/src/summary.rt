@@ -1,19 +1,16 @@
 // The summary of a graph.
-ghost use Rattle.std.specs.Prelude.{◌≡◌, ◌<◌, ◌≤◌, IfOk, get_or, length, max, sum};
+ghost use Rattle.std.specs.Prelude.{◌≡◌, IfOk, max};
 ghost use Rattle.edge_order.specs.Order.{order_of};
-ghost use Rattle.edge_laws.specs.Saliencies.{saliencies};
 ghost use Rattle.graph_hierarchy.specs.Hierarchies.{IsTreeOf};
 ghost use Rattle.higra_report.specs.Summary.{greatest, summary_of, summary_report};
 
+use super::findings::find_numbers;
 use edge_order::Order;
-use forest_witness::witness;
 use hg_base::{Graph, OutOfMemory, push_headed_line};
 use partition_tree::Tree;
-use quasi_flat_zones::zones;
 use report_lines::Pieces;
-use saliency::saliency;
 use std::alloc::{AllocError, Global};
-use watershed_cut::{Minima, watershed};
+use std::thread::Threads;
 
 /// Counts and sums of what the other reports write one by one.
 #[derive(Clone, Copy)]
@@ -39,8 +36,8 @@ pub(crate) struct Summary {
 }
 
 /// The summary of a graph, whose order and tree these are. The error is want of memory.
-#[tactic(auto, using(crate::proofs::SharedRoots::shared_roots))]
 pub(crate) fn summary_of(
+    rt: &(impl Threads + Sync),
     alloc: Global,
     graph: &Graph,
     order: &Order,
@@ -50,21 +47,18 @@ pub(crate) fn summary_of(
     requires tree { IsTreeOf graph.now tree.now }
     ensures { IfOk result (λ summary. summary ≡ summary_of graph.now) }
 {
-    let zones = zones(alloc, tree)?;
-    let values = saliency(alloc, graph, tree)?;
-    let minima = Minima::of(alloc, graph, order, tree)?;
-    let watershed = watershed(alloc, graph, order, tree, &minima)?;
+    let found = find_numbers(rt, alloc, graph, order, tree)?;
     Ok(Summary {
         vertices: u64::from(graph.n()),
         edges: u64::from(graph.m()),
         nodes: u64::from(tree.nodes()),
-        zones: u64::from(zones.nodes()),
+        zones: found.zones,
         root: greatest_altitude(tree),
-        saliency: total(graph, &values),
-        minima: u64::from(minima.count()),
-        forest: watershed.forest().len() as u64,
-        weight: witness(graph, &minima, &watershed),
-        cut: watershed.cut().len() as u64,
+        saliency: found.saliency,
+        minima: found.cut.minima,
+        forest: found.cut.forest,
+        weight: found.cut.weight,
+        cut: found.cut.cut,
     })
 }
 
@@ -84,33 +78,6 @@ fn greater(first: u64, second: u64) -> u64
     ensures { result ≡ max first second }
 {
     if first < second { second } else { first }
-}
-
-// The sum of the saliencies of a graph, which these are.
-#[tactic(auto, using(crate::proofs::SummaryLemmas::total_more))]
-fn total(graph: &Graph, values: &[u64]) -> u64
-    requires { values.now ≡ saliencies graph.now }
-    ensures { result ≡ sum values.now }
-{
-    let mut total = 0;
-    for e in 0..graph.m() {
-        total += saliency_of(graph, values, e);
-    }
-    total
-}
-
-// The saliency of edge e, which is no greater than its weight.
-#[tactic(auto, using(crate::proofs::SummaryLemmas::values_length))]
-fn saliency_of(graph: &Graph, values: &[u64], e: u32) -> u64
-    requires within { e < length graph.now.edges }
-    requires values { values.now ≡ saliencies graph.now }
-    ensures value { result ≡ get_or values.now e 0 }
-    ensures small { result ≤ 4294967295 }
-{
-    let weight = u64::from(graph.edge(e).w);
-    let value = values[e as usize];
-    prove!(value <= weight);
-    value
 }
 
 /// The text of a summary, in one piece: a line for each number, with its word. The error is want of memory.

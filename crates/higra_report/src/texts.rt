@@ -21,7 +21,8 @@ ghost use Rattle.graph_hierarchy.specs.Hierarchies.{IsTreeOf};
 ghost use Rattle.higra_report.specs.Reports.{cut_tree, graph_energies, graph_energy_cut, regions, text_of};
 ghost use Rattle.higra_report.specs.Theorems.{IsHierarchy};
 
-use super::hierarchies::{Basins, energies, regions};
+use super::hierarchies::{Basins, energies, hierarchy_and_extinctions, regions};
+use super::sides::saliencies_of;
 use super::summary::{summary_of, summary_pieces};
 use attributes::{Attributes, attributes_pieces};
 use edge_order::Order;
@@ -34,7 +35,7 @@ use label_writer::labels_pieces;
 use partition_tree::{Tree, tree_pieces};
 use quasi_flat_zones::zones;
 use report_lines::Pieces;
-use saliency::{saliency, saliency_pieces};
+use saliency::saliency_pieces;
 use std::alloc::Global;
 use std::thread::Threads;
 use watershed_cut::{Minima, minima_pieces, watershed, watershed_pieces};
@@ -58,13 +59,13 @@ pub(crate) fn text_of(
     match report {
         Report::Tree => tree_pieces(rt, alloc, tree),
         Report::Zones => zones_text(rt, alloc, graph, tree),
-        Report::Saliency => saliency_pieces(rt, alloc, &saliency(alloc, graph, tree)?),
+        Report::Saliency => saliency_pieces(rt, alloc, &saliencies_of(rt, alloc, graph, tree)?),
         Report::Attributes => { attributes_pieces(rt, alloc, &Attributes::of(alloc, graph, tree)?) }
         Report::Minima => minima_pieces(rt, alloc, &Minima::of(alloc, graph, order, tree)?),
         Report::Watershed => watershed_text(rt, alloc, graph, order, tree),
         Report::Hierarchical(kind) => hierarchical_text(rt, alloc, graph, order, tree, kind),
         Report::Cut(kind, level) => regions_text(rt, alloc, graph, order, tree, kind, level),
-        Report::Summary => summary_pieces(alloc, &summary_of(alloc, graph, order, tree)?),
+        Report::Summary => summary_pieces(alloc, &summary_of(rt, alloc, graph, order, tree)?),
         Report::Mintree | Report::Maxtree => Ok(Pieces::new(alloc)),
         Report::Energy(penalty) => energy_text(rt, alloc, graph, tree, penalty),
     }
@@ -117,9 +118,8 @@ fn hierarchical_text(
     requires tree { IsTreeOf graph.now tree.now }
     ensures { IfOk result (λ text. text ≡ hierarchical_report (hierarchical_of graph.now kind) (extinctions_of graph.now kind)) }
 {
-    let basins = Basins::of(alloc, graph, order, tree)?;
-    let values = basins.extinctions(alloc, graph, tree, kind)?;
-    let hierarchy = basins.hierarchy(alloc, graph, tree, kind)?;
+    let basins = Basins::of(rt, alloc, graph, order, tree)?;
+    let (hierarchy, values) = hierarchy_and_extinctions(rt, alloc, graph, tree, &basins, kind)?;
     hierarchical_pieces(rt, alloc, &hierarchy, &values)
 }
 
@@ -137,7 +137,11 @@ fn regions_text(
     requires tree { IsTreeOf graph.now tree.now }
     ensures { IfOk result (λ text. text ≡ labels_report (regions (cut_tree kind graph.now) level)) }
 {
-    labels_pieces(rt, alloc, &regions(alloc, graph, order, tree, kind, level)?)
+    labels_pieces(
+        rt,
+        alloc,
+        &regions(rt, alloc, graph, order, tree, kind, level)?,
+    )
 }
 
 // The text of the least cut with a penalty for each region.

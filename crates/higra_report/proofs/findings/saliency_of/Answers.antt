@@ -4,7 +4,7 @@ use Rattle.std.specs.Prelude.{Option}
 use Rattle.hg_base.specs.declared.graph.Edge.{Edge}
 use Rattle.hg_base.specs.Graph.{weight}
 use Rattle.higra_report.proofs.SummaryLemmas.{value_small}
-use Rattle.higra_report.proofs.summary.saliency_of.Goals as goal
+use Rattle.higra_report.proofs.findings.saliency_of.Goals as goal
 
 pub prove-unreachable-requires : goal.prove-unreachable-requires
 prove-unreachable-requires c =

@@ -1,6 +1,6 @@
 use Rattle.std.proofs.Common.{◌≤◌, arith, length}
 use Rattle.higra_report.proofs.SummaryLemmas.{total_all, values_length}
-use Rattle.higra_report.proofs.summary.total.Goals as goal
+use Rattle.higra_report.proofs.findings.total.Goals as goal
 
 pub returns : goal.returns
 returns c =

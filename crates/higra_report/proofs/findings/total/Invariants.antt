@@ -1,6 +1,6 @@
 use Rattle.std.proofs.Common.{◌≡◌, ◌*◌, ◌≤◌, take}
 use Rattle.std.specs.Prelude.{sum}
-use Rattle.higra_report.proofs.summary.total.Given as goal
+use Rattle.higra_report.proofs.findings.total.Given as goal
 
 -- the values so far are summed, and each is below 2 ^ 32
 abbrev pub invariant-loop-e : goal.invariant-loop-e

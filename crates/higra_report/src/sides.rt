@@ -1,0 +1,36 @@
+// What is found in several threads where a graph has many edges.
+ghost use Rattle.std.specs.Prelude.{◌≡◌, IfOk};
+ghost use Rattle.edge_laws.specs.Saliencies.{saliencies};
+ghost use Rattle.graph_hierarchy.specs.Hierarchies.{IsTreeOf};
+
+use hg_base::{Graph, OutOfMemory};
+use partition_tree::Tree;
+use saliency::{saliency, saliency_in_threads};
+use std::alloc::Global;
+use std::thread::Threads;
+
+// A graph of fewer edges is worked on in one thread: others would take longer to start than to do their share.
+const FEW: u32 = 16_384;
+
+/// Whether a graph has so many edges that threads are started for it.
+pub(crate) fn is_large(graph: &Graph) -> bool {
+    FEW <= graph.m()
+}
+
+/// The saliencies of a graph, of which the tree is its own, in threads where it is large. The error is want of memory.
+#[tactic(auto, using(crate::proofs::SharedRoots::shared_roots))]
+pub(crate) fn saliencies_of(
+    rt: &(impl Threads + Sync),
+    alloc: Global,
+    graph: &Graph,
+    tree: &Tree,
+) -> Result<Vec<u64>, OutOfMemory>
+    requires { IsTreeOf graph.now tree.now }
+    ensures { IfOk result (λ values. values.items ≡ saliencies graph.now) }
+{
+    if is_large(graph) {
+        saliency_in_threads(rt, alloc, graph, tree)
+    } else {
+        saliency(alloc, graph, tree)
+    }
+}

@@ -1,6 +1,7 @@
-ghost use Rattle.std.specs.Prelude.{◌≡◌, IfOk};
+ghost use Rattle.std.specs.Prelude.{◌≡◌, length, IfOk};
+ghost use Rattle.tree_laws.specs.Tree.{ParentTree};
 ghost use Rattle.pgm_reader.specs.Grid.{graph_of};
-ghost use Rattle.saliency.specs.Values.{EndsShareRoots};
+ghost use Rattle.saliency.specs.Values.{EndsShareRoots, AreLowestAltitudes};
 ghost use Rattle.contour_map.specs.Drawn.{AreContoursIn};
 
 use crate::map::ContourMap;
@@ -29,6 +30,21 @@ pub fn draw_contours(
     ensures { IfOk result (λ bytes. AreContoursIn picture.now tree.now bytes.items) }
 {
     let values = saliency_in_threads(rt, alloc, graph, tree)?;
-    let map = ContourMap::of_in_threads(rt, alloc, picture.width(), picture.height(), &values)?;
+    draw_saliencies(rt, alloc, picture, &values)
+}
+
+/// The contours of a picture by a value for each edge of its graph, in order of number, as the bytes of a PGM picture. Where
+/// the values are the saliencies of the edges in a tree over the pixels, these are the contours in that tree. The error is want
+/// of memory.
+pub fn draw_saliencies(
+    rt: &(impl Threads + Sync),
+    alloc: Global,
+    picture: &Picture,
+    values: &[u64],
+) -> Result<Vec<u8>, OutOfMemory>
+    requires { length values.now ≡ length (graph_of picture.now).edges }
+    ensures { (tree : ParentTree) → AreLowestAltitudes (graph_of picture.now) tree values.now → IfOk result (λ bytes. AreContoursIn picture.now tree bytes.items) }
+{
+    let map = ContourMap::of_in_threads(rt, alloc, picture.width(), picture.height(), values)?;
     write_contours_in_threads(rt, alloc, &map)
 }

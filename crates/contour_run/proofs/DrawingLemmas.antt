@@ -1,26 +1,17 @@
--- The contours of pictures in the trees of their graphs.
-use Rattle.std.proofs.Common.{◌≡◌, None, sym, subst}
-use Rattle.extinction.specs.HierarchicalWatershed.{hierarchical_of}
-use Rattle.hg_base.specs.declared.kind.Kind.{Kind}
+-- The receipt of drawn contours.
+use Rattle.std.proofs.Common.{◌≡◌, None}
 use Rattle.graph_hierarchy.specs.Tilings.{receipt_in}
 use Rattle.graph_hierarchy.specs.declared.tiling.Tiling.TheVariants.{Squares}
-use Rattle.hg_base.specs.Graph.{WeightedGraph, IsGraph}
-use Rattle.tree_laws.specs.Tree.{ParentTree}
+use Rattle.hg_base.specs.Graph.{WeightedGraph}
 use Rattle.merge_board.specs.Seats.{ReceiptState}
 use Rattle.pgm_reader.specs.Raster.{Raster}
-use Rattle.saliency.specs.Values.{EndsShareRoots}
 use Rattle.higra_report.proofs.PlanningLemmas.{edges_in, receipt_squares}
 use Rattle.higra_input.specs.Inputs.{input_graph}
 use Rattle.higra_input.specs.declared.input.Input.TheVariants.{Picture}
 use Rattle.higra_words.specs.declared.request.Form.TheVariants.{Text}
 use Rattle.higra_words.specs.declared.request.Report.TheVariants.{Tree}
-use Rattle.contour_run.proofs.SharingLemmas.{hierarchy_shares}
 use Rattle.contour_run.specs.Drawing.{contours_receipt}
 use Rattle.contour_run.specs.declared.request.ContourRequest.{ContourRequest}
-
--- the ends of each edge are below one root of a hierarchical watershed
-pub hierarchy_roots : (g : WeightedGraph) (kind : Kind) (t : ParentTree) → IsGraph g → t ≡ hierarchical_of g kind → EndsShareRoots g t
-hierarchy_roots g kind t is same = subst (λ (u : ParentTree). EndsShareRoots g u) (sym same) (hierarchy_shares g kind is)
 
 -- the receipt of a picture's graph is that of the request
 pub receipt_drawn : (request : ContourRequest) (r : Raster) (g : WeightedGraph) (receipt : ReceiptState) → receipt ≡ receipt_in g (Squares r.width r.height request.tile) request.workers → g ≡ input_graph (Picture r)

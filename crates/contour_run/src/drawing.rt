@@ -13,8 +13,9 @@ ghost use Rattle.contour_run.specs.Drawing.{AreDrawn, contours_receipt};
 ghost use Rattle.contour_run.specs.Running.{CanDraw};
 
 use super::request::ContourRequest;
-use contour_map::draw_contours;
+use contour_map::{draw_contours, draw_saliencies};
 use edge_order::Order;
+use extinction::hierarchical_saliencies;
 use graph_hierarchy::GraphHierarchy;
 use hg_base::{FaultKind, Gate, Graph, InputFault, Kind, OutOfMemory};
 use higra_input::Input;
@@ -112,7 +113,8 @@ fn altitude_contours(
     draw_contours(rt, alloc, picture, graph, tree)
 }
 
-// The contours in the graph's hierarchical watershed by a kind.
+// The contours in the graph's hierarchical watershed by a kind. That tree isn't made: the saliencies are found over the basins
+// of its watershed cut.
 fn hierarchy_contours(
     rt: &(impl Threads + Sync),
     alloc: Global,
@@ -128,6 +130,7 @@ fn hierarchy_contours(
     ensures { IfOk result (λ bytes. AreContoursIn picture.now (hierarchical_of graph.now kind) bytes.items) }
 {
     let basins = Basins::of(rt, alloc, graph, order, tree)?;
-    let hierarchy = basins.hierarchy(alloc, graph, tree, kind)?;
-    draw_contours(rt, alloc, picture, graph, &hierarchy)
+    let (attributes, minima) = (&basins.attributes, &basins.minima);
+    let values = hierarchical_saliencies(rt, alloc, graph, tree, attributes, minima, kind)?;
+    draw_saliencies(rt, alloc, picture, &values)
 }

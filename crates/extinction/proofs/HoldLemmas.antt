@@ -1,7 +1,7 @@
 -- Which minima a node of a tree holds: the tests, and from child to parent.
 use Rattle.std.proofs.Common.{◌≡◌, ℕ, zero, suc, ◌+◌, ◌<◌, ◌≤◌, Bool, true, false, inl, inr, refl, sym, ◌∙◌, subst, ap, arith, List, [], ◌∷◌, length, get_or}
 use Rattle.std.specs.Prelude.{◌==◌, ◌||◌, not, nat_lt, Option, Some, None, find, unwrap_or}
-use Rattle.std.specs.List.{range_with_len, list_all}
+use Rattle.std.specs.List.{range_with_len}
 use Rattle.std.proofs.lemmas.Bool.{cases_Bool, both_ways, and_parts, and_from, or_cases, or_left, or_right, not-true, not_from_false, false_from_ne_true, ne_eqb, eq-eqb, cases_eq, lt-ltb, ltb-true}
 use Rattle.hg_base.specs.Lists.{IsIn}
 use Rattle.hg_base.specs.Labels.{IsLabel}

@@ -13,3 +13,8 @@ pub mod OwnLemmas
 pub mod NodeSurvivorLemmas
 pub mod OneGraph
 pub mod PersistenceTree
+pub mod SharingLemmas
+pub mod BasinLaws
+pub mod BasinTrees
+pub mod BasinEdges
+pub mod HierarchyBasins

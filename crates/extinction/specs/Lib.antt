@@ -6,3 +6,4 @@ pub mod HierarchicalWatershed
 pub mod Report
 pub mod NodeSurvivors
 pub mod PersistenceOrder
+pub mod Basins

@@ -1,6 +1,5 @@
 -- The list by persistence as it is sorted.
 use Rattle.std.specs.Prelude.{◌≡◌, ℕ, ◌+◌, ◌<◌, List, length, map, All, slice_index}
-use Rattle.std.specs.List.{range_with_len}
 use Rattle.hg_base.specs.Graph.{WeightedGraph, first_end, second_end}
 use Rattle.edge_laws.specs.Edges.{EdgeList, IsSameSet}
 use Rattle.edge_laws.specs.Rank.{ranked}

@@ -1,7 +1,9 @@
 //! Laws of the definitions. Each is the contract of a function that does nothing.
 ghost use Rattle.std.specs.Prelude.{◌≡◌, ◌↔◌, ℕ, ◌<◌, ◌≤◌, List, length, true, false, IsTrue, slice_index};
 ghost use Rattle.hg_base.specs.Graph.{WeightedGraph, IsGraph};
+ghost use Rattle.edge_laws.specs.Edges.{EdgeList, Joined};
 ghost use Rattle.edge_laws.specs.Rank.{ranked};
+ghost use Rattle.edge_laws.specs.Saliency.{at_most};
 ghost use Rattle.tree_laws.specs.Tree.{ParentTree, graph_tree};
 ghost use Rattle.tree_laws.specs.Levels.{IsClimbing, AltitudesRise, Shares};
 ghost use Rattle.partition_tree.specs.TreeLists.{IsWellFormed};
@@ -9,6 +11,7 @@ ghost use Rattle.partition_tree.specs.Children.{child_count, IsChildAt};
 ghost use Rattle.watershed_cut.specs.MinimumLabels.{LabelledMinima, minima_of};
 ghost use Rattle.watershed_cut.specs.Watershed.{tree_label};
 ghost use Rattle.hg_base.specs.declared.kind.Kind.{Kind};
+ghost use Rattle.extinction.specs.Basins.{AreGrounded, AreBetween};
 ghost use Rattle.extinction.specs.Holding.{HoldsMinimum, holds, least_held, child, child_holds, both_hold};
 ghost use Rattle.extinction.specs.Survivors.{dying, living, survivor, survivors};
 ghost use Rattle.extinction.specs.HierarchicalWatershed.{hierarchical_of};
@@ -51,4 +54,11 @@ pub fn hierarchical_is_well_formed()
 pub fn level_zero_is_the_watershed()
     ensures { (g : WeightedGraph) (kind : Kind) (x y : ℕ) → IsGraph g → x < g.n → y < g.n →
         (Shares (hierarchical_of g kind) 0 x y ↔ (tree_label g.n (ranked g) x ≡ tree_label g.n (ranked g) y)) }
+{}
+
+/// What the edges between the labels of some vertices join, by weight: two labels exactly where the edges themselves join
+/// their vertices. The edges of weight 0 join exactly the vertices of one label.
+pub fn joined_between_labels()
+    ensures { (n : ℕ) (l : ℕ → ℕ) (s q : EdgeList) (k x y : ℕ) → AreGrounded n l s → AreBetween l s q → x < n → y < n →
+        (Joined (at_most s k) x y ↔ Joined (at_most q k) (l x) (l y)) }
 {}

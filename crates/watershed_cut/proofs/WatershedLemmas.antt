@@ -4,7 +4,7 @@ use Rattle.std.specs.Prelude.{◌==◌, not, ◌&&◌, filter, nat_lt}
 use Rattle.std.specs.List.{range_with_len}
 use Rattle.std.proofs.lemmas.Bool.{cases_Bool, and_parts, cond-true, cond-false, ne_eqb, eq-eqb}
 use Rattle.std.proofs.lemmas.List.FromFn.{length-map-range_with_len, get_or-map-range_with_len}
-use Rattle.hg_base.specs.Graph.{WeightedGraph, first_end, second_end}
+use Rattle.hg_base.specs.Graph.{WeightedGraph, IsGraph, first_end, second_end}
 use Rattle.edge_laws.specs.Edges.{ListedEdge, EdgeList, AreApart, AreWithin, joins, is_joining}
 use Rattle.hg_base.specs.Lists.{IsIn}
 use Rattle.hg_base.specs.Labels.{Labelling, IsLabel, IsLabelling}
@@ -13,7 +13,7 @@ use Rattle.tree_laws.specs.Tree.{ParentTree, graph_tree, place}
 use Rattle.tree_laws.specs.Zones.{maker}
 use Rattle.tree_laws.proofs.FrontOnce.{leaf_or_made}
 use Rattle.hg_base.proofs.Leasts.{map-agree}
-use Rattle.edge_laws.proofs.Ranked.{AreApart-ranked, IsIn-ranked}
+use Rattle.edge_laws.proofs.Ranked.{AreApart-ranked, AreWithin-ranked, IsIn-ranked}
 use Rattle.edge_laws.proofs.Sets.{same_test, IsIn-joins, IsIn-joins_kept}
 use Rattle.tree_laws.proofs.TreeNodes.{made-within}
 use Rattle.partition_tree.specs.TreeLists.{IsWellFormed}
@@ -110,6 +110,64 @@ chosen-test g vertices near labels edges chosen set' are c e he = same_test (get
     own : ListedEdge
     own = numbered g e
 
+-- labels of vertices and their number are those of the graph's watershed cut
+pub record AreTreeLabels (g : WeightedGraph) (labels : List ℕ) (count : ℕ) : Type 0 where
+  pub fit : IsLabelling (record { labels = labels; count = count })
+  pub list : labels ≡ map (tree_label g.n (ranked g)) (range_with_len 0 g.n)
+  pub result : record { labels = labels; count = count } ≡ tree_labelling g
+
+-- what the passes gave that find the labels
+pub record AreLabelsFound (g : WeightedGraph) (t : ParentTree) (minima : LabelledMinima) (near labels nodes : List ℕ) : Type 0 where
+  pub tree : t ≡ graph_tree g
+  pub of_graph : minima ≡ minima_of g
+  pub some : 1 ≤ g.n
+  pub few : g.n ≤ 1048576
+  pub within : AreWithin g.n (ranked g)
+  pub nearest : AreNearestHolders t minima.vertices near
+  pub inner : AreNodeLabels g t minima.vertices near nodes
+  pub outer : labels ≡ map (λ x. get_or nodes (get_or near x 0) 0) (range_with_len 0 t.leaves)
+
+-- the lists of the passes are those of the graph
+label-setting : (g : WeightedGraph) (t : ParentTree) (minima : LabelledMinima) (near labels nodes : List ℕ) → AreLabelsFound g t minima near labels nodes → IsSetting g (minima_of g).vertices near nodes
+label-setting g t minima near labels nodes f = record {
+  within = f.within;
+  labelled = λ x h. get_or-map-range_with_len (vertex_label g.n (ranked g)) 0 g.n x x 0 h (omega arith);
+  nearest = subst (λ (m : LabelledMinima). AreNearestHolders (graph_tree g) m.vertices near) f.of_graph (subst (λ (u : ParentTree). AreNearestHolders u minima.vertices near) f.tree f.nearest);
+  nodes = subst (λ (m : LabelledMinima). AreNodeLabels g (graph_tree g) m.vertices near nodes) f.of_graph (subst (λ (u : ParentTree). AreNodeLabels g u minima.vertices near nodes) f.tree f.inner);
+}
+
+-- they give the labels of the watershed cut
+pub labels-made : (g : WeightedGraph) (t : ParentTree) (minima : LabelledMinima) (near labels nodes : List ℕ) (count : ℕ) → count ≡ minima.count → AreLabelsFound g t minima near labels nodes → AreTreeLabels g labels count
+labels-made g t minima near labels nodes count counted f = record {
+  fit = subst IsLabelling (sym labelled) fits;
+  list = labels-are;
+  result = labelled;
+}
+  where
+    s : EdgeList
+    s = ranked g
+
+    labels-are : labels ≡ map (tree_label g.n s) (range_with_len 0 g.n)
+    labels-are =
+        f.outer ∙ ap (λ (u : ParentTree). map (λ x. get_or nodes (get_or near x 0) 0) (range_with_len 0 u.leaves)) f.tree
+        ∙ map-agree (λ x. get_or nodes (get_or near x 0) 0) (tree_label g.n s) 0 g.n (λ x low h. node-label g (minima_of g).vertices near nodes (label-setting g t minima near labels nodes f) x (omega arith))
+
+    labelled : record { labels = labels; count = count } ≡ tree_labelling g
+    labelled =
+        let with_list : List ℕ → Labelling = λ l. record { labels = l; count = count } in
+        let with_count : ℕ → Labelling = λ c. record { labels = map (tree_label g.n s) (range_with_len 0 g.n); count = c } in
+        ap with_list labels-are ∙ ap with_count (counted ∙ ap (λ (m : LabelledMinima). m.count) f.of_graph)
+
+    fits : IsLabelling (tree_labelling g)
+    fits =
+        let long : length (tree_labelling g).labels ≡ g.n = length-map-range_with_len (tree_label g.n s) 0 g.n in record {
+          some = (let some = f.some in omega (arith, long, some));
+          few = (let few = f.few in omega (arith, long, few));
+          each = λ k d h.
+              let low : k < g.n = omega arith in
+              subst (IsLabel (minimum_count g.n s)) (sym (get_or-map-range_with_len (tree_label g.n s) 0 g.n k k d low (omega arith))) (tree-label_range g.n s (AreApart-ranked g) f.within k low);
+        }
+
 -- what the passes gave
 pub record AreFound (g : WeightedGraph) (t : ParentTree) (minima : LabelledMinima) (near labels nodes forest' cut : List ℕ) (chosen : List Bool) : Type 0 where
   pub tree : t ≡ graph_tree g
@@ -131,12 +189,12 @@ pub record IsWatershedOf (g : WeightedGraph) (labels forest' cut : List ℕ) (co
 
 pub watershed-made : (g : WeightedGraph) (t : ParentTree) (minima : LabelledMinima) (near labels nodes forest' cut : List ℕ) (chosen : List Bool) (count : ℕ) → count ≡ minima.count → AreFound g t minima near labels nodes forest' cut chosen → IsWatershedOf g labels forest' cut count
 watershed-made g t minima near labels nodes forest' cut chosen count counted f = record {
-  fit = subst IsLabelling (sym labelled) fits;
+  fit = own.fit;
   result =
       let with_labels : Labelling → WatershedCut = λ l. record { labels = l; cut = cut; forest = forest' } in
       let with_cut : List ℕ → WatershedCut = λ c. record { labels = tree_labelling g; cut = c; forest = forest' } in
       let with_forest : List ℕ → WatershedCut = λ l. record { labels = tree_labelling g; cut = filter (is_cut_edge g) (numbers g); forest = l } in
-      ap with_labels labelled ∙ ap with_cut cut_is ∙ ap with_forest forest_is;
+      ap with_labels own.result ∙ ap with_cut cut_is ∙ ap with_forest forest_is;
 }
   where
     s : EdgeList
@@ -148,13 +206,23 @@ watershed-made g t minima near labels nodes forest' cut chosen count counted f =
     within : AreWithin g.n s
     within e i = (let r = ranked-ends g f.ends e i in (let h : first_end g r.0 < g.n = r.1.0.first in omega (arith, h, r.1.1.0), let h : second_end g r.0 < g.n = r.1.0.second in omega (arith, h, r.1.1.1)))
 
-    set' : IsSetting g vertices near nodes
-    set' = record {
+    found : AreLabelsFound g t minima near labels nodes
+    found = record {
+      tree = f.tree;
+      of_graph = f.of_graph;
+      some = f.some;
+      few = f.few;
       within = within;
-      labelled = λ x h. get_or-map-range_with_len (vertex_label g.n s) 0 g.n x x 0 h (omega arith);
-      nearest = subst (λ (m : LabelledMinima). AreNearestHolders (graph_tree g) m.vertices near) f.of_graph (subst (λ (u : ParentTree). AreNearestHolders u minima.vertices near) f.tree f.nearest);
-      nodes = subst (λ (m : LabelledMinima). AreNodeLabels g (graph_tree g) m.vertices near nodes) f.of_graph (subst (λ (u : ParentTree). AreNodeLabels g u minima.vertices near nodes) f.tree f.inner);
+      nearest = f.nearest;
+      inner = f.inner;
+      outer = f.outer;
     }
+
+    own : AreTreeLabels g labels count
+    own = labels-made g t minima near labels nodes count counted found
+
+    set' : IsSetting g vertices near nodes
+    set' = label-setting g t minima near labels nodes found
 
     picked : AreChosen g (graph_tree g) near (minima_of g).edges chosen
     picked = subst (λ (m : LabelledMinima). AreChosen g (graph_tree g) near m.edges chosen) f.of_graph (subst (λ (u : ParentTree). AreChosen g u near minima.edges chosen) f.tree f.picked)
@@ -162,29 +230,8 @@ watershed-made g t minima near labels nodes forest' cut chosen count counted f =
     edge-labels : AreEdgeLabels g (minima_of g).edges
     edge-labels e h = get_or-map-range_with_len (λ d. edge_label g.n s (numbered g d)) 0 (length g.edges) e e 0 h (omega arith)
 
-    labels-are : labels ≡ map (tree_label g.n s) (range_with_len 0 g.n)
-    labels-are =
-        f.outer ∙ ap (λ (u : ParentTree). map (λ x. get_or nodes (get_or near x 0) 0) (range_with_len 0 u.leaves)) f.tree
-        ∙ map-agree (λ x. get_or nodes (get_or near x 0) 0) (tree_label g.n s) 0 g.n (λ x low h. node-label g vertices near nodes set' x (omega arith))
-
-    labelled : record { labels = labels; count = count } ≡ tree_labelling g
-    labelled =
-        let with_list : List ℕ → Labelling = λ l. record { labels = l; count = count } in
-        let with_count : ℕ → Labelling = λ c. record { labels = map (tree_label g.n s) (range_with_len 0 g.n); count = c } in
-        ap with_list labels-are ∙ ap with_count (counted ∙ ap (λ (m : LabelledMinima). m.count) f.of_graph)
-
-    fits : IsLabelling (tree_labelling g)
-    fits =
-        let long : length (tree_labelling g).labels ≡ g.n = length-map-range_with_len (tree_label g.n s) 0 g.n in record {
-          some = (let some = f.some in omega (arith, long, some));
-          few = (let few = f.few in omega (arith, long, few));
-          each = λ k d h.
-              let low : k < g.n = omega arith in
-              subst (IsLabel (minimum_count g.n s)) (sym (get_or-map-range_with_len (tree_label g.n s) 0 g.n k k d low (omega arith))) (tree-label_range g.n s (AreApart-ranked g) within k low);
-        }
-
     label-at : (x : ℕ) → x < g.n → get_or labels x 0 ≡ tree_label g.n s x
-    label-at x h = ap (λ (xs : List ℕ). get_or xs x 0) labels-are ∙ get_or-map-range_with_len (tree_label g.n s) 0 g.n x x 0 h (omega arith)
+    label-at x h = ap (λ (xs : List ℕ). get_or xs x 0) own.list ∙ get_or-map-range_with_len (tree_label g.n s) 0 g.n x x 0 h (omega arith)
 
     cut_is : cut ≡ filter (is_cut_edge g) (numbers g)
     cut_is = f.between ∙ filter_agree-range (λ e. not (get_or labels (first_end g e) 0 == get_or labels (second_end g e) 0)) (is_cut_edge g) 0 (length g.edges)
@@ -204,6 +251,21 @@ minima-lengths g t minima same of_graph = (
   ap (λ (m : LabelledMinima). length m.vertices) of_graph ∙ length-map-range_with_len (vertex_label g.n (ranked g)) 0 g.n ∙ sym (ap (λ (u : ParentTree). u.leaves) same),
   ap (λ (m : LabelledMinima). length m.edges) of_graph ∙ length-map-range_with_len (λ e. edge_label g.n (ranked g) (numbered g e)) 0 (length g.edges),
 )
+
+-- the labels alone, of the slice that was handed over
+pub labels-found : (g : WeightedGraph) (t : ParentTree) (minima : LabelledMinima) (near part labels : List ℕ) (count : ℕ) → IsGraph g → t ≡ graph_tree g → minima ≡ minima_of g →
+    AreNearestHolders t minima.vertices near → part ≡ near → ((nodes : List ℕ) × (AreNodeLabels g t minima.vertices part nodes × (labels ≡ map (λ x. get_or nodes (get_or part x 0) 0) (range_with_len 0 t.leaves)))) →
+    count ≡ minima.count → AreTreeLabels g labels count
+labels-found g t minima near part labels count is same of_graph nearest one inner counted = labels-made g t minima near labels inner.0 count counted (record {
+  tree = same;
+  of_graph = of_graph;
+  some = is.some_vertex;
+  few = is.vertices;
+  within = AreWithin-ranked g is;
+  nearest = nearest;
+  inner = subst (λ (xs : List ℕ). AreNodeLabels g t minima.vertices xs inner.0) one inner.1.0;
+  outer = inner.1.1 ∙ ap (λ (xs : List ℕ). map (λ x. get_or inner.0 (get_or xs x 0) 0) (range_with_len 0 t.leaves)) one;
+})
 
 -- the same of the slices that were handed over
 pub watershed-found : (g : WeightedGraph) (t : ParentTree) (minima : LabelledMinima) (near part third labels fourth forest' cut : List ℕ) (chosen second : List Bool) (count : ℕ) → t ≡ graph_tree g → minima ≡ minima_of g → IsWellFormed t →

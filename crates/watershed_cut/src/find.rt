@@ -6,7 +6,7 @@ ghost use Rattle.edge_order.specs.Order.{order_of};
 ghost use Rattle.watershed_cut.specs.MinimumLabels.{minima_of};
 ghost use Rattle.watershed_cut.specs.Plateaus.{HasTwoEnds};
 ghost use Rattle.watershed_cut.specs.NearestHolders.{edges_cut_by};
-ghost use Rattle.watershed_cut.specs.Watershed.{IsWatershed, watershed_of};
+ghost use Rattle.watershed_cut.specs.Watershed.{IsWatershed, tree_labelling, watershed_of};
 
 use crate::cuts::Watershed;
 use crate::forest::{chosen_edges, vertex_labels};
@@ -38,6 +38,38 @@ pub fn watershed(
     let _ = order;
     graph.keeps_its_rules();
     by_tree(alloc, graph, tree, minima).map_err(|_| OutOfMemory)
+}
+
+/// The labels of a graph's watershed cut alone, without its forest and its cut edges. Tree and minima are the graph's own.
+/// The error is want of memory.
+pub fn watershed_labels(
+    alloc: Global,
+    graph: &Graph,
+    tree: &Tree,
+    minima: &Minima,
+) -> Result<Labels, OutOfMemory>
+    requires tree { tree.now ≡ graph_tree graph.now }
+    requires minima { minima.now ≡ minima_of graph.now }
+    ensures { IfOk result (λ labels. labels ≡ tree_labelling graph.now) }
+{
+    labels_by_tree(alloc, graph, tree, minima).map_err(|_| OutOfMemory)
+}
+
+fn labels_by_tree(
+    alloc: Global,
+    graph: &Graph,
+    tree: &Tree,
+    minima: &Minima,
+) -> Result<Labels, AllocError>
+    requires tree { tree.now ≡ graph_tree graph.now }
+    requires minima { minima.now ≡ minima_of graph.now }
+    ensures { IfOk result (λ labels. labels ≡ tree_labelling graph.now) }
+{
+    // That the graph keeps to what every graph does.
+    graph.keeps_its_rules();
+    let near = nearest_holders(alloc, tree, minima)?;
+    let labels = vertex_labels(alloc, graph, tree, minima, &near)?;
+    Ok(Labels::new(labels, minima.count()))
 }
 
 fn by_tree(

@@ -1,6 +1,15 @@
-use Rattle.contour_run.proofs.DrawingLemmas.{hierarchy_roots}
+use Rattle.std.proofs.Common.{◌≡◌, ℕ, List, length, ap, ◌∙◌, subst, sym}
+use Rattle.hg_base.specs.Graph.{WeightedGraph}
+use Rattle.saliency.specs.Values.{AreLowestAltitudes}
+use Rattle.extinction.specs.HierarchicalWatershed.{hierarchical_of}
 use Rattle.contour_run.proofs.drawing.hierarchy_contours.Goals as goal
 
-pub draw_contours-requires-clause-roots : goal.draw_contours-requires-clause-roots
-draw_contours-requires-clause-roots g c κs within =
-    hierarchy_roots c.args.graph.now c.args.kind c.in_ok-hierarchy.hierarchy c.requires.tree.graph c.in_ok-hierarchy.ensures.hierarchy
+pub draw_saliencies-requires : goal.draw_saliencies-requires
+draw_saliencies-requires g c = ap length c.deref.ensures.value ∙ c.in_ok-values.ensures.one_each ∙ ap (λ (h : WeightedGraph). length h.edges) c.requires.graph
+
+pub returns : goal.returns
+returns g c =
+    let tree = hierarchical_of c.args.graph.now c.args.kind in
+    c.draw_saliencies.ensures tree
+    (subst (λ (h : WeightedGraph). AreLowestAltitudes h tree c.deref.result.now) c.requires.graph
+    (subst (λ (vs : List ℕ). AreLowestAltitudes c.args.graph.now tree vs) (sym c.deref.ensures.value) c.in_ok-values.ensures))

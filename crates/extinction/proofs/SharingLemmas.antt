@@ -1,23 +1,19 @@
--- The ends of each edge of a graph are below one root of its hierarchical watersheds.
-use Rattle.std.proofs.Common.{◌≡◌, ℕ, zero, suc, ◌+◌, ◌<◌, ◌≤◌, true, inl, inr, refl, ap, arith, [], ◌∷◌, length}
+-- The edges by persistence join the ends of each edge of a graph.
+use Rattle.std.proofs.Common.{◌≡◌, ℕ, zero, suc, ◌+◌, ◌<◌, ◌≤◌, true, inl, inr, ap, arith, [], ◌∷◌, length}
 use Rattle.std.specs.Prelude.{not}
 use Rattle.std.proofs.lemmas.Bool.{both_ways, cases_Bool, true_from_ne_false}
 use Rattle.edge_laws.specs.Edges.{ListedEdge, EdgeList, below, is_joining, joined, joins}
 use Rattle.hg_base.specs.Lists.{IsIn}
-use Rattle.hg_base.specs.Graph.{WeightedGraph, IsGraph, first_end, second_end}
+use Rattle.hg_base.specs.Graph.{WeightedGraph, first_end, second_end}
 use Rattle.edge_laws.specs.Rank.{listed, rank, ranked}
 use Rattle.edge_laws.specs.Saliency.{at_most}
-use Rattle.tree_laws.proofs.Levels.{level-tree}
 use Rattle.edge_laws.proofs.Members.{IsIn-below_kept}
-use Rattle.edge_laws.proofs.Ranked.{IsIn-ranked, ends-within}
+use Rattle.edge_laws.proofs.Ranked.{IsIn-ranked}
 use Rattle.edge_laws.proofs.Sets.{IsIn-joins, joined-among}
-use Rattle.edge_laws.proofs.Walks.{IsSame-joined, Joined-joined, joined-ends}
-use Rattle.extinction.specs.HierarchicalWatershed.{by_persistence, persistence_edges, hierarchical_of}
+use Rattle.edge_laws.proofs.Walks.{IsSame-joined, joined-ends}
+use Rattle.extinction.specs.HierarchicalWatershed.{by_persistence, persistence_edges}
 use Rattle.extinction.specs.Persistence.{persistences_of}
 use Rattle.hg_base.specs.declared.kind.Kind.{Kind}
-use Rattle.extinction.proofs.LevelZero.{hierarchy-forest, hierarchy-list}
-use Rattle.partition_tree.proofs.PathLemmas.{common-shares}
-use Rattle.saliency.specs.Values.{EndsShareRoots}
 use Rattle.watershed_cut.proofs.JoinedByKind.{joined_into}
 use Rattle.watershed_cut.proofs.MinimumByWeight.{at_most-from}
 use Rattle.watershed_cut.proofs.Star.{map-in}
@@ -51,17 +47,10 @@ hierarchy-joins g kind f i =
     let p = persistences_of g kind in
     joins-enough s (persistence_edges s p) (λ e m. joined-ends (persistence_edges s p) (by_persistence s p e) (map-in (by_persistence s p) e (joins s) m)) (suc f.rank) f i (omega arith)
 
--- so some node is above both ends, and one root
-pub hierarchy_shares : (g : WeightedGraph) (kind : Kind) → IsGraph g → EndsShareRoots g (hierarchical_of g kind)
-hierarchy_shares g kind is e h =
+-- so do those of some weight
+pub hierarchy-light : (g : WeightedGraph) (kind : Kind) (e : ℕ) → e < length g.edges →
+    joined (at_most (persistence_edges (ranked g) (persistences_of g kind)) (weight_above (persistence_edges (ranked g) (persistences_of g kind))).0) (first_end g e) (second_end g e) ≡ true
+hierarchy-light g kind e h =
     let s = persistence_edges (ranked g) (persistences_of g kind) in
-    let list = hierarchy-list g is kind in
-    let forest = hierarchy-forest g is kind in
-    let ends = ends-within g is e h in
     let top = weight_above s in
-    let own : joined s (first_end g e) (second_end g e) ≡ true = hierarchy-joins g kind (listed g (rank g e) e) (IsIn-ranked g e h) in
-    let light : joined (at_most s top.0) (first_end g e) (second_end g e) ≡ true = joined-among s (at_most s top.0) (first_end g e) (second_end g e) (λ f i. at_most-from s top.0 f i (top.1 f i)) own in
-    let above = (level-tree g.n s list.apart list.within list.by_weight).one_above top.0 (first_end g e) ends.0 in
-    let few : g.n ≤ length (hierarchical_of g kind).parents = (let each = forest.one_maker_each in omega arith) in
-    common-shares (hierarchical_of g kind) forest (first_end g e) (second_end g e) above.0 (omega (arith, few, ends.0))
-    (above.1.1 (first_end g e) ends.0 ([], refl), above.1.1 (second_end g e) ends.1 (Joined-joined (at_most s top.0) (first_end g e) (second_end g e) light))
+    joined-among s (at_most s top.0) (first_end g e) (second_end g e) (λ f i. at_most-from s top.0 f i (top.1 f i)) (hierarchy-joins g kind (listed g (rank g e) e) (IsIn-ranked g e h))

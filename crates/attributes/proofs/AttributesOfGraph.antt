@@ -3,7 +3,7 @@ use Rattle.std.proofs.Common.{◌≡◌, ℕ, ◌+◌, ◌-◌, ◌*◌, ◌<◌
 use Rattle.std.specs.List.{range_with_len}
 use Rattle.std.proofs.lemmas.List.FromFn.{length-map-range_with_len, get_or-map-range_with_len, fill_by_all}
 use Rattle.std.proofs.lemmas.Nat.{mul-le}
-use Rattle.hg_base.specs.Graph.{WeightedGraph}
+use Rattle.hg_base.specs.Graph.{WeightedGraph, AreLight}
 use Rattle.tree_laws.specs.Tree.{ParentTree, parent, graph_tree}
 use Rattle.tree_laws.specs.Levels.{is_above}
 use Rattle.partition_tree.specs.TreeLists.{nodes}
@@ -11,7 +11,6 @@ use Rattle.attributes.specs.declared.gather.Operation.TheVariants as operations
 use Rattle.attributes.specs.Gathering.{gathered, neutral, AreOfLeaves}
 use Rattle.attributes.specs.Attributes.{AttributeLists, area, floor, vertices_below, area_of, volume_under, dynamics_under, altitude_over, node_numbers, attributes_in, attributes_of}
 use Rattle.attributes.specs.AttributesFields.{AreOfNodes}
-use Rattle.attributes.specs.Floors.{IsRead}
 use Rattle.attributes.specs.Sums.{AreSums}
 use Rattle.attributes.proofs.Gathers.{sum-part, least-low}
 use Rattle.attributes.proofs.LowFloors.{floor-small}
@@ -27,18 +26,18 @@ pub record AreLeafValues (g : WeightedGraph) (t : ParentTree) (floors areas prod
   pub light : (x : ℕ) → x < t.leaves → floor g x < 2 ^ 32
 
 -- the floors fit 32 bits
-pub floors-light : (g : WeightedGraph) (n : ℕ) (floors : List ℕ) → IsRead g → floors ≡ map (floor g) (range_with_len 0 n) → All (λ (w : ℕ). w < 2 ^ 32) floors
-floors-light g n floors read made k d h =
+pub floors-light : (g : WeightedGraph) (n : ℕ) (floors : List ℕ) → AreLight g.edges → floors ≡ map (floor g) (range_with_len 0 n) → All (λ (w : ℕ). w < 2 ^ 32) floors
+floors-light g n floors weights made k d h =
     let long : length floors ≡ n = ap (λ (xs : List ℕ). length xs) made ∙ length-map-range_with_len (floor g) 0 n in
     subst (λ (w : ℕ). w < 2 ^ 32)
     (sym (ap (λ (xs : List ℕ). get_or xs k d) made ∙ get_or-map-range_with_len (floor g) 0 n k k d (omega (arith, h, long)) (omega arith)))
-    (floor-small g read.edges.weights k)
+    (floor-small g weights k)
 
 -- the floors, the areas and their products, as they were read
-pub leaf-values : (g : WeightedGraph) (t : ParentTree) (floors areas products floor_slice area_slice : List ℕ) → t.leaves ≡ g.n → IsRead g →
+pub leaf-values : (g : WeightedGraph) (t : ParentTree) (floors areas products floor_slice area_slice : List ℕ) → t.leaves ≡ g.n → AreLight g.edges →
     floors ≡ map (floor g) (range_with_len 0 g.n) → areas ≡ map (area g) (range_with_len 0 g.n) → All (λ (a : ℕ). a ≤ 4096) areas → floor_slice ≡ floors → area_slice ≡ areas →
     products ≡ map (λ x. get_or area_slice x 0 * get_or floor_slice x 0) (range_with_len 0 (length area_slice)) → AreLeafValues g t floors areas products
-leaf-values g t floors areas products floor_slice area_slice leaves read floors_made areas_made few same_floors same_areas products_made =
+leaf-values g t floors areas products floor_slice area_slice leaves weights floors_made areas_made few same_floors same_areas products_made =
     let n = t.leaves in
     let f : floors ≡ map (floor g) (range_with_len 0 t.leaves) = floors_made ∙ ap (λ (m : ℕ). map (floor g) (range_with_len 0 m)) (sym leaves) in
     let a : areas ≡ map (area g) (range_with_len 0 t.leaves) = areas_made ∙ ap (λ (m : ℕ). map (area g) (range_with_len 0 m)) (sym leaves) in
@@ -55,7 +54,7 @@ leaf-values g t floors areas products floor_slice area_slice leaves read floors_
           ∙ ap (λ (y : ℕ). y * get_or floors x 0) (area_at x h)
           ∙ ap (λ (y : ℕ). area g x * y) (floor_at x h));
       small = λ x h. subst (λ (y : ℕ). y ≤ 4096) (area_at x h) (few x 0 (omega (arith, h, long)));
-      light = λ x h. floor-small g read.edges.weights x;
+      light = λ x h. floor-small g weights x;
     }
 
 -- one value each

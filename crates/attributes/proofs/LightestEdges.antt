@@ -1,5 +1,5 @@
 -- The least weights of the edges at vertices, edge after edge.
-use Rattle.std.proofs.Common.{◌≡◌, ℕ, ◌+◌, ◌<◌, ◌^◌, Bool, true, false, cond, inl, inr, refl, sym, ◌∙◌, subst, ap, arith, List, [], ◌∷◌, ◌++◌, append-nil, length, length-set, get_or, set, take, map}
+use Rattle.std.proofs.Common.{◌≡◌, ℕ, ◌+◌, ◌<◌, Bool, true, false, cond, inl, inr, refl, sym, ◌∙◌, ap, arith, List, [], ◌∷◌, ◌++◌, append-nil, length, length-set, get_or, set, take, map}
 use Rattle.std.specs.Prelude.{◌==◌, filter, min, Option, Some, None, slice_get, unwrap_or, replicate}
 use Rattle.std.specs.List.{range_with_len}
 use Rattle.std.proofs.lemmas.Bool.{cases_eq, eq-eqb, ne_eqb, or_left, or_right, or_from}
@@ -11,7 +11,7 @@ use Rattle.std.proofs.lemmas.Option.{get_or_from_slice_get, slice_get_within}
 use Rattle.hg_base.specs.declared.graph.Edge.{Edge}
 use Rattle.hg_base.specs.Graph.{WeightedGraph, JoinsTwo}
 use Rattle.attributes.specs.Attributes.{is_end_of, weights_at, least, floor}
-use Rattle.attributes.specs.Floors.{least_if_any, lowered, AreLightest, AreEdgesRead}
+use Rattle.attributes.specs.Floors.{least_if_any, lowered, AreLightest}
 
 -- one more number
 least_if_any-push : (ks : List ℕ) (k : ℕ) → least_if_any (ks ++ k ∷ []) ≡ lowered (least_if_any ks) k
@@ -38,36 +38,24 @@ weights_in-off : (x : ℕ) (edges : List Edge) (e : Edge) → is_end_of x e ≡ 
 weights_in-off x edges e off =
     ap (map (λ (f : Edge). f.w)) (filter-append (is_end_of x) edges (e ∷ []) ∙ ap (λ (b : Bool). filter (is_end_of x) edges ++ cond b (e ∷ []) []) off ∙ append-nil (filter (is_end_of x) edges))
 
--- the first edges are read, and the least weights among them noted
+-- the least weights among the first edges are noted
 pub record AreLightestTo (g : WeightedGraph) (e : ℕ) (lightest : List (Option ℕ)) : Type 0 where
   pub one_each : length lightest ≡ g.n
   pub each : (x : ℕ) → x < g.n → get_or lightest x None ≡ least_if_any (weights_in x (take e g.edges))
-  pub ends : (k : ℕ) (d : Edge) → k < e → JoinsTwo g.n (get_or g.edges k d)
-  pub weights : (k : ℕ) (d : Edge) → k < e → (get_or g.edges k d).w < 2 ^ 32
 
--- none is read yet
+-- none is noted yet
 pub lightest_first : (g : WeightedGraph) (lightest : List (Option ℕ)) → lightest ≡ replicate g.n None → AreLightestTo g 0 lightest
 lightest_first g lightest made = record {
   one_each = ap (λ (xs : List (Option ℕ)). length xs) made ∙ length-replicate g.n None;
   each = λ x h. ap (λ (xs : List (Option ℕ)). get_or xs x None) made ∙ get_or-replicate g.n x None None h;
-  ends = λ k d h. absurd (omega arith);
-  weights = λ k d h. absurd (omega arith);
 }
 
 -- an edge notes its weight at both ends
-pub lightest_more : (g : WeightedGraph) (e : ℕ) (edge : Edge) (old mid new : List (Option ℕ)) → AreLightestTo g e old → slice_get g.edges e ≡ Some edge → JoinsTwo g.n edge → edge.w < 2 ^ 32 →
+pub lightest_more : (g : WeightedGraph) (e : ℕ) (edge : Edge) (old mid new : List (Option ℕ)) → AreLightestTo g e old → slice_get g.edges e ≡ Some edge → JoinsTwo g.n edge →
     mid ≡ set old edge.u (lowered (get_or old edge.u None) edge.w) → new ≡ set mid edge.v (lowered (get_or mid edge.v None) edge.w) → AreLightestTo g (e + 1) new
-lightest_more g e edge old mid new a at joins light first second = record {
+lightest_more g e edge old mid new a at joins first second = record {
   one_each = new_long;
   each = noted;
-  ends = λ k d h. elim (cases_eq k e) [
-    | inl level ↦ subst (JoinsTwo g.n) (sym (ap (λ (j : ℕ). get_or g.edges j d) level ∙ get_or_from_slice_get g.edges e edge d at)) joins
-    | inr other ↦ a.ends k d (grind (arith, h, other))
-  ];
-  weights = λ k d h. elim (cases_eq k e) [
-    | inl level ↦ subst (λ (f : Edge). f.w < 2 ^ 32) (sym (ap (λ (j : ℕ). get_or g.edges j d) level ∙ get_or_from_slice_get g.edges e edge d at)) light
-    | inr other ↦ a.weights k d (grind (arith, h, other))
-  ];
 }
   where
     mid_long : length mid ≡ g.n
@@ -118,18 +106,11 @@ lightest_more g e edge old mid new a at joins light first second = record {
       ]
     ]
 
--- all are read
+-- all are noted
 pub lightest_all : (g : WeightedGraph) (e : ℕ) (lightest : List (Option ℕ)) → e ≡ length g.edges → AreLightestTo g e lightest → AreLightest g lightest
 lightest_all g e lightest all a = record {
   one_each = a.one_each;
   each = λ x h. a.each x h ∙ ap (λ (edges : List Edge). least_if_any (weights_in x edges)) (take_all e g.edges (omega arith));
-}
-
--- and each edge has been read
-pub edges_all : (g : WeightedGraph) (e : ℕ) (lightest : List (Option ℕ)) → e ≡ length g.edges → AreLightestTo g e lightest → AreEdgesRead g
-edges_all g e lightest all a = record {
-  ends = λ k d h. a.ends k d (omega arith);
-  weights = λ k d h. a.weights k d (omega arith);
 }
 
 -- one more floor

@@ -1,13 +1,13 @@
 -- No floor of a vertex below a node is above the altitude of the node's parent.
-use Rattle.std.proofs.Common.{◌≡◌, ℕ, zero, suc, ◌+◌, ◌<◌, ◌≤◌, ◌^◌, Bool, true, ◌⊎◌, inl, inr, refl, sym, ◌∙◌, subst, ap, arith, List, [], ◌∷◌, length, map, All}
+use Rattle.std.proofs.Common.{◌≡◌, ℕ, zero, suc, ◌+◌, ◌<◌, ◌≤◌, ◌^◌, Bool, true, ◌⊎◌, inl, inr, refl, sym, ◌∙◌, subst, ap, arith, List, [], ◌∷◌, length, map}
 use Rattle.std.specs.Prelude.{◌==◌, filter, min, nat_le, Option, Some, slice_get}
 use Rattle.std.specs.Option.{option_map_or}
 use Rattle.std.specs.List.{fold}
 use Rattle.std.proofs.lemmas.Bool.{cases_Bool, cases_eq, eqb-true, eq-eqb, le-leb, leb-true, or_left, or_right, or_cases}
 use Rattle.std.proofs.lemmas.Option.{get_or_from_slice_get, slice_get_within}
 use Rattle.hg_base.specs.declared.graph.Edge.{Edge}
-use Rattle.hg_base.specs.Graph.{WeightedGraph, JoinsTwo}
-use Rattle.edge_laws.specs.Edges.{ListedEdge, EdgeList, AreWithin, Joined, joined, below, joins}
+use Rattle.hg_base.specs.Graph.{WeightedGraph, IsGraph, JoinsTwo, AreLight}
+use Rattle.edge_laws.specs.Edges.{ListedEdge, EdgeList, Joined, joined, below, joins}
 use Rattle.hg_base.specs.Lists.{IsIn}
 use Rattle.edge_laws.specs.Rank.{rank, number_at, listed, ranked}
 use Rattle.edge_laws.specs.Saliency.{at_most}
@@ -16,7 +16,7 @@ use Rattle.edge_laws.proofs.Walks.{IsSame-joined}
 use Rattle.hg_base.proofs.Lists.{IsIn-filter, IsIn-kept, slice_get-some}
 use Rattle.edge_laws.proofs.Sets.{IsIn-joins_kept}
 use Rattle.edge_laws.proofs.Ranks.{number_at-below}
-use Rattle.edge_laws.proofs.Ranked.{ranked-at, AreApart-ranked, AreByWeight-ranked, IsIn-ranked}
+use Rattle.edge_laws.proofs.Ranked.{ranked-at, AreApart-ranked, AreWithin-ranked, AreByWeight-ranked, IsIn-ranked}
 use Rattle.tree_laws.proofs.Climbs.{above-parent, ancestor-root}
 use Rattle.tree_laws.proofs.FrontOnce.{leaf_or_made, leaf-alone, below-ends, ends-apart}
 use Rattle.tree_laws.proofs.Levels.{level-tree}
@@ -100,13 +100,6 @@ floor-ranked g f i x end =
     let same : f.weight ≡ r.edge.w = r.weight in
     omega (arith, low, same)
 
--- the ends of the ranked edges are vertices where those of the edges are
-pub within-ranked : (g : WeightedGraph) → All (JoinsTwo g.n) g.edges → AreWithin g.n (ranked g)
-within-ranked g ends f i =
-    let r = ranked-edge g f i in
-    let two : JoinsTwo g.n r.edge = subst (JoinsTwo g.n) (get_or_from_slice_get g.edges r.number r.edge r.edge r.at) (ends r.number r.edge (slice_get_within g.edges r.number r.edge r.at)) in
-    (subst (λ (k : ℕ). k < g.n) (sym r.u) two.u, subst (λ (k : ℕ). k < g.n) (sym r.v) two.v)
-
 -- a walk to another vertex begins with an edge at the first
 first-edge : (s : EdgeList) (k x y : ℕ) → Joined (at_most s k) x y → (x ≡ y → ⊥) → (f : ListedEdge) × (IsIn f s × ((f.weight ≤ k) × ((f.u ≡ x) ⊎ (f.v ≡ x))))
 first-edge s k x y ([], w) unlike = absurd (unlike w)
@@ -124,12 +117,12 @@ floor-joined g k x y j unlike =
     omega (arith, low, light)
 
 -- the floors of the vertices below a node that an edge made
-floor-made : (g : WeightedGraph) → All (JoinsTwo g.n) g.edges → (e : ListedEdge) → IsIn e (joins (ranked g)) → (x : ℕ) → x < g.n → IsAbove (graph_tree g) (g.n + place (ranked g) e) x →
+floor-made : (g : WeightedGraph) → IsGraph g → (e : ListedEdge) → IsIn e (joins (ranked g)) → (x : ℕ) → x < g.n → IsAbove (graph_tree g) (g.n + place (ranked g) e) x →
     floor g x ≤ altitude (graph_tree g) (g.n + place (ranked g) e)
-floor-made g ends e i x h a =
+floor-made g graph e i x h a =
     let s = ranked g in
     let apart = AreApart-ranked g in
-    let within = within-ranked g ends in
+    let within = AreWithin-ranked g graph in
     let levels = level-tree g.n (ranked g) apart within (AreByWeight-ranked g) in
     let both = below-ends g.n (ranked g) apart within e i in
     let kept = IsIn-joins_kept (ranked g) e i in
@@ -148,12 +141,12 @@ other-end g x e two end = elim (or_cases (e.u == x) (e.v == x) end) [
 ]
 
 -- no edge is at a leaf that is a root
-root-alone : (g : WeightedGraph) → All (JoinsTwo g.n) g.edges → (x : ℕ) → x < g.n → parent (graph_tree g) x ≡ x → (k : ℕ) (e : Edge) → slice_get g.edges k ≡ Some e → is_end_of x e ≡ true → ⊥
-root-alone g ends x h root k e at end =
+root-alone : (g : WeightedGraph) → IsGraph g → (x : ℕ) → x < g.n → parent (graph_tree g) x ≡ x → (k : ℕ) (e : Edge) → slice_get g.edges k ≡ Some e → is_end_of x e ≡ true → ⊥
+root-alone g graph x h root k e at end =
     let apart = AreApart-ranked g in
-    let levels = level-tree g.n (ranked g) apart (within-ranked g ends) (AreByWeight-ranked g) in
+    let levels = level-tree g.n (ranked g) apart (AreWithin-ranked g graph) (AreByWeight-ranked g) in
     let low : k < length g.edges = slice_get_within g.edges k e at in
-    let two : JoinsTwo g.n e = subst (JoinsTwo g.n) (get_or_from_slice_get g.edges k e e at) (ends k e low) in
+    let two : JoinsTwo g.n e = subst (JoinsTwo g.n) (get_or_from_slice_get g.edges k e e at) (graph.ends k e low) in
     let to = other-end g x e two end in
     let f = listed g (rank g k) k in
     let u : f.u ≡ e.u = ap (λ (o : Option Edge). option_map_or (λ x. x.u) o 0) at in
@@ -170,15 +163,15 @@ root-alone g ends x h root k e at end =
     to.1.1.0 (leaf-alone g.n (ranked g) apart x to.0 h to.1.0 (subst (λ (i : ℕ). IsAbove (graph_tree g) i to.0) here (top.1.1 to.0 to.1.0 walk)))
 
 -- so its floor is 0
-floor-root : (g : WeightedGraph) → All (JoinsTwo g.n) g.edges → (x : ℕ) → x < g.n → parent (graph_tree g) x ≡ x → floor g x ≡ 0
-floor-root g ends x h root = elim (filter-some (is_end_of x) g.edges) [
+floor-root : (g : WeightedGraph) → IsGraph g → (x : ℕ) → x < g.n → parent (graph_tree g) x ≡ x → floor g x ≡ 0
+floor-root g graph x h root = elim (filter-some (is_end_of x) g.edges) [
   | inl none' ↦ ap (λ (es : List Edge). least (map (λ e. e.w) es)) none'
-  | inr some ↦ absurd (root-alone g ends x h root some.0 some.1.0 some.1.1.0 some.1.1.1)
+  | inr some ↦ absurd (root-alone g graph x h root some.0 some.1.0 some.1.1.0 some.1.1.1)
 ]
 
 -- No floor of a vertex below a node is above the altitude of the node's parent.
-pub floors-low : (g : WeightedGraph) → All (JoinsTwo g.n) g.edges → (i x : ℕ) → i < length (graph_tree g).parents → x < g.n → IsAbove (graph_tree g) i x → floor g x ≤ altitude_over (graph_tree g) i
-floors-low g ends i x hi hx a =
+pub floors-low : (g : WeightedGraph) → IsGraph g → (i x : ℕ) → i < length (graph_tree g).parents → x < g.n → IsAbove (graph_tree g) i x → floor g x ≤ altitude_over (graph_tree g) i
+floors-low g graph i x hi hx a =
     let t = graph_tree g in
     let apart = AreApart-ranked g in
     let up = tree-up g.n (ranked g) apart i hi in
@@ -188,15 +181,15 @@ floors-low g ends i x hi hx a =
           let same : parent (graph_tree g) i ≡ x = leaf-alone g.n (ranked g) apart (parent (graph_tree g) i) x leaf hx over in
           let own : parent (graph_tree g) i ≡ i = elim (cases_eq (parent (graph_tree g) i) i) [ inl root ↦ root | inr inner ↦ absurd (let high : g.n ≤ parent (graph_tree g) i = up.inner inner in omega arith) ] in
           let root : parent (graph_tree g) x ≡ x = subst (λ (k : ℕ). parent (graph_tree g) k ≡ k) (sym own ∙ same) own in
-          let flat : floor g x ≡ 0 = floor-root g ends x hx root in
+          let flat : floor g x ≡ 0 = floor-root g graph x hx root in
           omega (arith, flat)
       | inr made ↦
           subst (λ (j : ℕ). floor g x ≤ altitude (graph_tree g) j) made.1.1
-          (floor-made g ends made.0 made.1.0 x hx (subst (λ (j : ℕ). IsAbove (graph_tree g) j x) (sym made.1.1) over))
+          (floor-made g graph made.0 made.1.0 x hx (subst (λ (j : ℕ). IsAbove (graph_tree g) j x) (sym made.1.1) over))
     ]
 
--- floors are weights, or 0, and fit 32 bits where the weights do
-pub floor-small : (g : WeightedGraph) → All (λ (e : Edge). e.w < 2 ^ 32) g.edges → (x : ℕ) → floor g x < 2 ^ 32
+-- floors are weights, or 0, and so fit 32 bits
+pub floor-small : (g : WeightedGraph) → AreLight g.edges → (x : ℕ) → floor g x < 2 ^ 32
 floor-small g small x = elim (filter-some (is_end_of x) g.edges) [
   | inl none' ↦ let flat : floor g x ≡ 0 = ap (λ (es : List Edge). least (map (λ e. e.w) es)) none' in omega (arith, flat)
   | inr some ↦
@@ -207,8 +200,8 @@ floor-small g small x = elim (filter-some (is_end_of x) g.edges) [
       omega (arith, low, light)
 ]
 
--- altitudes are weights, or 0, and fit 32 bits where the weights do
-pub altitudes-small : (g : WeightedGraph) → All (λ (e : Edge). e.w < 2 ^ 32) g.edges → (j : ℕ) → j < length (graph_tree g).parents → altitude (graph_tree g) j < 2 ^ 32
+-- altitudes are weights, or 0, and so fit 32 bits
+pub altitudes-small : (g : WeightedGraph) → AreLight g.edges → (j : ℕ) → j < length (graph_tree g).parents → altitude (graph_tree g) j < 2 ^ 32
 altitudes-small g small j h =
     let apart = AreApart-ranked g in
     elim (leaf_or_made g.n (ranked g) apart j h) [

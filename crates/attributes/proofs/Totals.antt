@@ -6,13 +6,13 @@ use Rattle.std.proofs.lemmas.List.Sums.{sum_by-cons, sum_by-le}
 use Rattle.std.proofs.lemmas.List.Folds.{fold-map}
 use Rattle.std.proofs.lemmas.List.FromFn.{length-range_with_len, get_or-range_with_len, get_or-map-range_with_len}
 use Rattle.std.proofs.Math.Nat.{mul-add, mul-zero}
-use Rattle.hg_base.specs.Graph.{WeightedGraph}
+use Rattle.hg_base.specs.Graph.{WeightedGraph, IsGraph, AreLight}
 use Rattle.hg_base.specs.Lists.{IsIn}
 use Rattle.edge_laws.specs.Rank.{ranked}
 use Rattle.tree_laws.specs.Tree.{ParentTree, parent, altitude, IsAbove, graph_tree}
 use Rattle.tree_laws.specs.Levels.{is_above}
 use Rattle.hg_base.proofs.Lists.{IsIn-filter, IsIn-kept}
-use Rattle.edge_laws.proofs.Ranked.{AreApart-ranked, AreByWeight-ranked}
+use Rattle.edge_laws.proofs.Ranked.{AreApart-ranked, AreWithin-ranked, AreByWeight-ranked}
 use Rattle.tree_laws.proofs.Levels.{level-tree}
 use Rattle.tree_laws.proofs.Tops.{is_above-from, is_above-to}
 use Rattle.partition_tree.specs.TreeLists.{nodes, IsWellFormed}
@@ -21,9 +21,8 @@ use Rattle.partition_tree.proofs.WellFormed.{well_formed-climbs, well_formed-lea
 use Rattle.attributes.specs.declared.gather.Operation.TheVariants as operations
 use Rattle.attributes.specs.Gathering.{combined, neutral, gathered, AreOfLeaves}
 use Rattle.attributes.specs.Attributes.{area, floor, least, vertices_below, area_of, volume_under, altitude_over}
-use Rattle.attributes.specs.Floors.{IsRead}
 use Rattle.attributes.proofs.Gathers.{gathered-agree}
-use Rattle.attributes.proofs.LowFloors.{floors-low, altitudes-small, within-ranked, least-le, in-mapped}
+use Rattle.attributes.proofs.LowFloors.{floors-low, altitudes-small, least-le, in-mapped}
 use Rattle.partition_tree.proofs.ListTests.{range-to, range-from}
 
 -- what the tree of a graph keeps to
@@ -34,16 +33,15 @@ pub record HasGraphTree (g : WeightedGraph) (t : ParentTree) : Type 0 where
   pub low : (i x : ℕ) → i < nodes t → x < t.leaves → IsAbove t i x → floor g x ≤ altitude_over t i
   pub small : (j : ℕ) → j < nodes t → altitude t j < 2 ^ 32
 
--- so it is for every graph that was read
-pub tree-of_graph : (g : WeightedGraph) (t : ParentTree) → t ≡ graph_tree g → IsRead g → HasGraphTree g t
-tree-of_graph g t same read =
-    let ends = read.edges.ends in
+-- so it is for every graph whose weights have 32 bits
+pub tree-of_graph : (g : WeightedGraph) (t : ParentTree) → t ≡ graph_tree g → IsGraph g → AreLight g.edges → HasGraphTree g t
+tree-of_graph g t same graph light =
     subst (HasGraphTree g) (sym same) (record {
-      well_formed = tree-well_formed g.n (ranked g) read.some_vertex read.vertices (AreApart-ranked g) (within-ranked g ends);
+      well_formed = tree-well_formed g.n (ranked g) graph.some_vertex graph.vertices (AreApart-ranked g) (AreWithin-ranked g graph);
       leaves = refl;
-      some_leaf = (level-tree g.n (ranked g) (AreApart-ranked g) (within-ranked g ends) (AreByWeight-ranked g)).some_leaf;
-      low = λ i x hi hx a. floors-low g ends i x hi hx a;
-      small = altitudes-small g read.edges.weights;
+      some_leaf = (level-tree g.n (ranked g) (AreApart-ranked g) (AreWithin-ranked g graph) (AreByWeight-ranked g)).some_leaf;
+      low = λ i x hi hx a. floors-low g graph i x hi hx a;
+      small = altitudes-small g light;
     })
 
 -- the vertices of a node are the leaves below it

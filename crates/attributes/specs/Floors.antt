@@ -1,7 +1,7 @@
--- What reading the edges of a graph tells.
-use Rattle.std.specs.Prelude.{◌≡◌, ℕ, ◌<◌, ◌≤◌, ◌^◌, List, [], ◌∷◌, length, min, Option, Some, None, get_or, All}
+-- The least weights of the edges at the vertices of a graph.
+use Rattle.std.specs.Prelude.{◌≡◌, ℕ, ◌<◌, List, [], ◌∷◌, length, min, Option, Some, None, get_or}
 use Rattle.std.specs.List.{fold}
-use Rattle.hg_base.specs.Graph.{WeightedGraph, JoinsTwo}
+use Rattle.hg_base.specs.Graph.{WeightedGraph}
 use Rattle.attributes.specs.Attributes.{weights_at}
 
 -- the least number of a list, if it has one
@@ -18,14 +18,3 @@ lowered (Some j) k = Some (min j k)
 pub record AreLightest (g : WeightedGraph) (lightest : List (Option ℕ)) : Type 0 where
   pub one_each : length lightest ≡ g.n
   pub each : (x : ℕ) → x < g.n → get_or lightest x None ≡ least_if_any (weights_at g x)
-
--- the ends of each edge are two vertices, and its weight is a number of 32 bits
-pub record AreEdgesRead (g : WeightedGraph) : Type 0 where
-  pub ends : All (JoinsTwo g.n) g.edges
-  pub weights : All (λ e. e.w < 2 ^ 32) g.edges
-
--- what reading a graph tells of it
-pub record IsRead (g : WeightedGraph) : Type 0 where
-  pub some_vertex : 1 ≤ g.n
-  pub vertices : g.n ≤ 1048576
-  pub edges : AreEdgesRead g

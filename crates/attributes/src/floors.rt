@@ -1,15 +1,14 @@
 ghost use Rattle.std.specs.Prelude.{◌≡◌, ◌<◌, ◌≤◌, length, map, IfOk, slice_set, slice_index_or, replicate, Some, None};
 ghost use Rattle.std.specs.List.{range_with_len};
 ghost use Rattle.attributes.specs.Attributes.{floor};
-ghost use Rattle.attributes.specs.Floors.{AreLightest, AreEdgesRead, IsRead, lowered};
+ghost use Rattle.attributes.specs.Floors.{AreLightest, lowered};
 
 use hg_base::Graph;
 use std::alloc::{AllocError, Global};
 
 /// The floor of each vertex: the least weight of an edge at it, or 0 where it has none.
 pub(crate) fn floors(alloc: Global, graph: &Graph) -> Result<Vec<u64>, AllocError>
-    ensures floors { IfOk result (λ floors. floors.items ≡ map (floor graph.now) (range_with_len 0 graph.now.n)) }
-    ensures read { IfOk result (λ floors. IsRead graph.now) }
+    ensures { IfOk result (λ floors. floors.items ≡ map (floor graph.now) (range_with_len 0 graph.now.n)) }
 {
     let lightest = lightest(alloc, graph)?;
     let mut floors = Vec::with_capacity(alloc, graph.n() as usize)?;
@@ -21,8 +20,7 @@ pub(crate) fn floors(alloc: Global, graph: &Graph) -> Result<Vec<u64>, AllocErro
 
 // The least weight of an edge at each vertex, if it has one.
 fn lightest(alloc: Global, graph: &Graph) -> Result<Vec<Option<u32>>, AllocError>
-    ensures lightest { IfOk result (λ lightest. AreLightest graph.now lightest.items) }
-    ensures edges { IfOk result (λ lightest. AreEdgesRead graph.now) }
+    ensures { IfOk result (λ lightest. AreLightest graph.now lightest.items) }
 {
     let mut lightest = vec![in alloc; None; graph.n() as usize]?;
     note_weights(graph, &mut lightest);
@@ -32,8 +30,7 @@ fn lightest(alloc: Global, graph: &Graph) -> Result<Vec<Option<u32>>, AllocError
 // Notes the weight of each edge at both of its ends.
 fn note_weights(graph: &Graph, lightest: &mut [Option<u32>])
     requires { lightest.old ≡ replicate graph.now.n None }
-    ensures lightest { AreLightest graph.now lightest.new }
-    ensures edges { AreEdgesRead graph.now }
+    ensures { AreLightest graph.now lightest.new }
 {
     for e in 0..graph.m() {
         let edge = graph.edge(e);

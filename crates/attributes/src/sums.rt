@@ -1,6 +1,5 @@
 ghost use Rattle.std.specs.Prelude.{◌≡◌, IfOk};
 ghost use Rattle.tree_laws.specs.Tree.{graph_tree};
-ghost use Rattle.attributes.specs.Floors.{IsRead};
 ghost use Rattle.attributes.specs.Sums.{AreSums};
 
 use crate::floors::floors;
@@ -22,9 +21,9 @@ impl NodeSums {
     // The sums of the nodes of the graph's own tree.
     pub(crate) fn of(alloc: Global, graph: &Graph, tree: &Tree) -> Result<NodeSums, AllocError>
         requires { tree.now ≡ graph_tree graph.now }
-        ensures sums { IfOk result (λ sums. AreSums graph.now tree.now sums.areas.items sums.products.items sums.lowest.items) }
-        ensures read { IfOk result (λ sums. IsRead graph.now) }
+        ensures { IfOk result (λ sums. AreSums graph.now tree.now sums.areas.items sums.products.items sums.lowest.items) }
     {
+        graph.keeps_its_rules();
         let floors = floors(alloc, graph)?;
         let areas = areas(alloc, graph)?;
         let products = products(alloc, &areas, &floors)?;

@@ -77,6 +77,7 @@ fn made(alloc: Global, graph: &Graph, tree: &Tree) -> Result<Attributes, AllocEr
     requires { tree.now ≡ graph_tree graph.now }
     ensures { IfOk result (λ attributes. attributes ≡ attributes_of graph.now) }
 {
+    graph.keeps_its_rules();
     let sums = NodeSums::of(alloc, graph, tree)?;
     let volumes = volumes(alloc, tree, &sums.areas, &sums.products)?;
     let dynamics = dynamics(alloc, tree, &sums.lowest)?;

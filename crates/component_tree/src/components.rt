@@ -57,8 +57,7 @@ fn made(
         IfOk result (λ tree. IsComponentTree side (value_at values.now) g.n (ranked g) tree) }
 {
     graph.keeps_its_rules();
-    // That the values keep to their limits.
-    let _ = values.value(0);
+    values.keeps_its_rules();
     tree_of_nodes(alloc, values, side, tree)
 }
 

@@ -34,6 +34,14 @@ impl Values {
         Values { list: values }
     }
 
+    /// Does nothing. It stands where only this is needed: what all values of vertices keep to, `AreValues`.
+    #[inline(always)]
+    pub fn keeps_its_rules(&self)
+        ensures { AreValues self.now }
+    {
+        let _ = &self.list;
+    }
+
     /// The value of a vertex.
     pub fn value(&self, v: u32) -> u32
         requires { v < length self.now }

@@ -48,7 +48,7 @@ floor-under g h label q i x some' b hx its up other =
         | inr over ↦
             let nx = leaf-node (graph_tree g) o.well_formed x hx in
             let climb : altitude (graph_tree g) (parent (graph_tree g) q) ≤ altitude (graph_tree g) i = above-altitude (graph_tree g) o.climbs l.rise i (parent (graph_tree g) q) (o.climbs.within q b.node) over in
-            let low : floor g x ≤ altitude (graph_tree g) (parent (graph_tree g) x) = floors-low g h.ends x x nx hx (0, refl) in
+            let low : floor g x ≤ altitude (graph_tree g) (parent (graph_tree g) x) = floors-low g h x x nx hx (0, refl) in
             omega (arith, climb, low, high)
       ]
     ]

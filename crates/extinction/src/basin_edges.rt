@@ -72,7 +72,6 @@ fn edges_between(
     requires inside { AreGrounded graph.now.n (basin labels.now) (persistence_edges (ranked graph.now) persistences.now) }
     ensures { IfOk result (λ list. IsBasinList graph.now labels.now persistences.now list.items) }
 {
-    // That there are no more vertices and nodes than a graph and its tree may have.
     graph.keeps_its_rules();
     tree.keeps_its_rules();
     let mut list = Vec::new(alloc);
@@ -117,8 +116,7 @@ fn renamed(graph: &Graph, tree: &Tree, labels: &Labels, persistences: &[u64], pl
     ensures first { result.u < labels.now.count }
     ensures second { result.v < labels.now.count }
 {
-    // That there are no more nodes than a tree may have.
-    let _ = tree.nodes();
+    tree.keeps_its_rules();
     let maker = tree.maker(tree.leaves() + place);
     let edge = graph.edge(maker);
     Ranked {

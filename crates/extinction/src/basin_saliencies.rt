@@ -34,7 +34,6 @@ pub fn hierarchical_saliencies(
     requires minima { minima.now ≡ minima_of graph.now }
     ensures { IfOk result (λ values. AreLowestAltitudes graph.now (hierarchical_of graph.now kind) values.items) }
 {
-    // That the graph keeps to what every graph does.
     graph.keeps_its_rules();
     let labels = watershed_labels(alloc, graph, tree, minima)?;
     let basins = basin_tree(alloc, graph, tree, attributes, minima, kind, &labels)?;
@@ -95,8 +94,7 @@ fn fill(
     requires all { length values.old ≡ length graph.now.edges }
     ensures { AreBasinAltitudes graph.now labels.now basins.now values.new }
 {
-    // That the graph keeps to its limits.
-    let _ = graph.m();
+    graph.keeps_its_rules();
     par_for_each_mut(
         rt,
         values,

@@ -84,9 +84,8 @@ fn edges_by_keys(
     requires keys { AreSorted persistences.now keys.now }
     ensures { IfOk result (λ list. IsListOf graph.now persistences.now list.items) }
 {
-    // That there are no more vertices and nodes than a graph and its tree may have.
-    let _ = graph.n();
-    let _ = tree.nodes();
+    graph.keeps_its_rules();
+    tree.keeps_its_rules();
     let mut list = Vec::with_capacity(alloc, keys.len())?;
     for k in 0..keys.len() {
         let (_, place) = keys[k];
@@ -103,8 +102,7 @@ fn ranked(graph: &Graph, tree: &Tree, persistences: &[u64], place: u32) -> Ranke
     ensures edge { result ≡ ranked_of graph.now persistences.now place }
     ensures ends { IsRankedEdge graph.now.n result }
 {
-    // That there are no more nodes than a tree may have.
-    let _ = tree.nodes();
+    tree.keeps_its_rules();
     let maker = tree.maker(tree.leaves() + place);
     let edge = graph.edge(maker);
     Ranked {
@@ -124,8 +122,7 @@ fn sorted_keys(
     requires { length persistences.now ≡ length tree.now.makers }
     ensures { IfOk result (λ keys. AreSorted persistences.now keys.items) }
 {
-    // That there are no more nodes than a tree may have.
-    let _ = tree.nodes();
+    tree.keeps_its_rules();
     let mut keys = Vec::with_capacity(alloc, persistences.len())?;
     for (place, persistence) in persistences.iter().enumerate() {
         keys.push((*persistence, place as u32))?;

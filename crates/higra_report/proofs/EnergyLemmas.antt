@@ -12,8 +12,7 @@ use Rattle.attributes.specs.Attributes.{AttributeLists, area, area_of, attribute
 use Rattle.attributes.proofs.LowFloors.{altitudes-small}
 use Rattle.energy_cut.specs.Energies.{energies_of, node_energy}
 use Rattle.energy_cut.specs.Regions.{RegionCut, energy_cut_of}
-use Rattle.hg_base.specs.declared.graph.Edge.{Edge}
-use Rattle.hg_base.specs.Graph.{WeightedGraph, IsGraph}
+use Rattle.hg_base.specs.Graph.{WeightedGraph, IsGraph, AreLight}
 use Rattle.tree_laws.specs.Levels.{is_above}
 use Rattle.tree_laws.specs.Tree.{ParentTree, altitude, graph_tree}
 use Rattle.partition_tree.specs.TreeLists.{nodes}
@@ -21,9 +20,9 @@ use Rattle.graph_hierarchy.specs.Hierarchies.{IsTreeOf}
 use Rattle.higra_report.specs.Reports.{graph_energies, graph_energy_cut}
 
 -- altitudes are weights
-pub altitudes_low : (g : WeightedGraph) (t : ParentTree) → IsTreeOf g t → All (λ (e : Edge). e.w < 2 ^ 32) g.edges → (i : ℕ) → i < nodes t → altitude t i < 2 ^ 32
-altitudes_low g t is small i h =
-    subst (λ (u : ParentTree). altitude u i < 2 ^ 32) (sym is.same) (altitudes-small g small i (subst (λ (u : ParentTree). i < nodes u) is.same h))
+pub altitudes_low : (g : WeightedGraph) (t : ParentTree) → IsTreeOf g t → AreLight g.edges → (i : ℕ) → i < nodes t → altitude t i < 2 ^ 32
+altitudes_low g t is light i h =
+    subst (λ (u : ParentTree). altitude u i < 2 ^ 32) (sym is.same) (altitudes-small g light i (subst (λ (u : ParentTree). i < nodes u) is.same h))
 
 -- there is an area for each node
 pub areas_each : (g : WeightedGraph) (t : ParentTree) (lists : AttributeLists) → IsTreeOf g t → lists ≡ attributes_of g → length lists.areas ≡ nodes t

@@ -112,8 +112,7 @@ fn components_text(
     ensures components { IfOk result (λ _. IsComponentTree side (value_at values.now) graph.now.n (ranked graph.now) (component_tree_of side values.now graph.now)) }
     ensures hierarchy { IfOk result (λ _. IsHierarchy graph.now) }
 {
-    // That the graph keeps to its limits.
-    let _ = graph.n();
+    graph.keeps_its_rules();
     let components = component_tree(alloc, values, side, weighed, tree)?;
     components_pieces(rt, alloc, &components, side)
 }

@@ -205,7 +205,7 @@ pub(crate) fn energies(
     ensures one_each { IfOk result (λ energies. length energies.items ≡ nodes tree.now) }
     ensures below { IfOk result (λ energies. All (λ e. e < 2 ^ 65) energies.items) }
 {
-    read_weights(graph);
+    graph.keeps_its_rules();
     let attributes = Attributes::of(alloc, graph, tree)?;
     let areas = node_areas(alloc, tree, &attributes)?;
     node_energies(alloc, tree, &areas, penalty)
@@ -230,13 +230,4 @@ fn areas_of(alloc: Global, tree: &Tree, attributes: &Attributes) -> Result<Vec<u
         areas.push(attributes.area(i))?;
     }
     Ok(areas)
-}
-
-// Reads each edge: its weight is a number of 32 bits.
-fn read_weights(graph: &Graph)
-    ensures { All (λ e. e.w < 2 ^ 32) graph.now.edges }
-{
-    for e in 0..graph.m() {
-        let _ = graph.edge(e);
-    }
 }

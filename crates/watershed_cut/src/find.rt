@@ -65,7 +65,6 @@ fn labels_by_tree(
     requires minima { minima.now ≡ minima_of graph.now }
     ensures { IfOk result (λ labels. labels ≡ tree_labelling graph.now) }
 {
-    // That the graph keeps to what every graph does.
     graph.keeps_its_rules();
     let near = nearest_holders(alloc, tree, minima)?;
     let labels = vertex_labels(alloc, graph, tree, minima, &near)?;

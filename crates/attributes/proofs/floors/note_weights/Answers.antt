@@ -1,8 +1,7 @@
-use Rattle.std.proofs.Common.{arith}
 use Rattle.attributes.proofs.LightestEdges.{lightest_more}
 use Rattle.attributes.proofs.floors.note_weights.Goals as goal
 
 pub loop-e-preserved : goal.loop-e-preserved
 loop-e-preserved c =
     lightest_more c.args.graph.now c.loop-e.e c.edge-edge.result c.loop-e.lightest c.lower.new.lightest _ c.loop-e.invariant c.edge-edge.ensures.value c.edge-edge.ensures.ends
-    (omega (arith, c.edge-edge.type_inv)) c.lower.ensures c.lower-in-loop-e.ensures
+    c.lower.ensures c.lower-in-loop-e.ensures

@@ -1,6 +1,6 @@
 use Rattle.attributes.proofs.LightestEdges.{AreLightestTo}
 use Rattle.attributes.proofs.floors.note_weights.Given as goal
 
--- the edges so far are read
+-- the weights of the edges so far are noted
 abbrev pub invariant-loop-e : goal.invariant-loop-e
 invariant-loop-e l = AreLightestTo l.graph l.e l.lightest

@@ -7,4 +7,4 @@ use Rattle.attributes.proofs.laws.volume_by_area.Goals as goal
 pub returns : goal.returns
 returns c = λ g i graph h.
     balance g (altitude_over (graph_tree g) i) (vertices_below (graph_tree g) i)
-    (λ x m. let v = vertex-in (graph_tree g) i x m in floors-low g graph.ends i x h v.0 v.1)
+    (λ x m. let v = vertex-in (graph_tree g) i x m in floors-low g graph i x h v.0 v.1)

@@ -14,7 +14,7 @@ pub tree_of_nodes-requires-clause-low : goal.tree_of_nodes-requires-clause-low
 tree_of_nodes-requires-clause-low c = λ i.
     let w = c.args.graph.now in
     let v = c.args.values.now in
-    let fits = value-fits v c.value.ensures.values.each in
+    let fits = value-fits v c.keeps_its_rules-2.ensures.each in
     subst (λ (u : ParentTree). altitude u i ≤ 4294967295) (sym c.requires.tree)
     (low-altitudes (λ x. turned c.args.side (value_at v x)) w.n (ranked w) (weighed-flood c.args.side v w c.requires.weighed.0 c.requires.weighed.1 fits c.keeps_its_rules.ensures.graph)
     (λ x. turned-fits c.args.side (value_at v x) (fits x)) i)
@@ -23,7 +23,7 @@ pub tree_of_nodes-requires-clause-leaves : goal.tree_of_nodes-requires-clause-le
 tree_of_nodes-requires-clause-leaves c =
     let w = c.args.graph.now in
     let v = c.args.values.now in
-    let fits = value-fits v c.value.ensures.values.each in
+    let fits = value-fits v c.keeps_its_rules-2.ensures.each in
     subst HasLeaves (sym c.requires.tree)
     (flood-leaves (λ x. turned c.args.side (value_at v x)) w.n (ranked w) (weighed-flood c.args.side v w c.requires.weighed.0 c.requires.weighed.1 fits c.keeps_its_rules.ensures.graph))
 
@@ -32,7 +32,7 @@ returns-clause-function c = λ g e.
     let w = c.args.graph.now in
     let v = c.args.values.now in
     let t = c.args.tree.now in
-    let fits = value-fits v c.value.ensures.values.each in
+    let fits = value-fits v c.keeps_its_rules-2.ensures.each in
     let flood = weighed-flood c.args.side v w g e fits c.keeps_its_rules.ensures.graph in
     let leaves : t.leaves ≡ w.n = ap (λ (u : ParentTree). u.leaves) c.requires.tree in
     IfOk-weaker c.tree_of_nodes.result _ (λ (tree : ComponentLists). tree ≡ component_tree_of c.args.side v g)
@@ -44,7 +44,7 @@ returns-clause-components c = λ g e.
     let w = c.args.graph.now in
     let v = c.args.values.now in
     let t = c.args.tree.now in
-    let fits = value-fits v c.value.ensures.values.each in
+    let fits = value-fits v c.keeps_its_rules-2.ensures.each in
     let flood = weighed-flood c.args.side v w g e fits c.keeps_its_rules.ensures.graph in
     let leaves : t.leaves ≡ w.n = ap (λ (u : ParentTree). u.leaves) c.requires.tree in
     IfOk-weaker c.tree_of_nodes.result _ (λ (tree : ComponentLists). IsComponentTree c.args.side (value_at v) g.n (ranked g) tree)

@@ -19,7 +19,7 @@ loop-k-preserved c = record {
 
 pub returns : goal.returns
 returns c =
-    let f = c.nodes.ensures.well_formed in
+    let f = c.keeps_its_rules-2.ensures.well_formed in
     let long : length c.args.tree.now.makers ≡ length (joins (ranked c.args.graph.now)) = ap (λ (t : ParentTree). length t.makers) c.requires.tree ∙ length-map (joins (ranked c.args.graph.now)) (λ (x : ListedEdge). x.number) in
-    listed-all c.args.graph.now c.args.persistences.now c.args.keys.now c.loop-k.list.items c.loop-k.k (omega (arith, c.n.ensures.value, c.n.ensures.some_vertex)) (omega (arith, c.n.ensures.value, c.n.ensures.vertices))
+    listed-all c.args.graph.now c.args.persistences.now c.args.keys.now c.loop-k.list.items c.loop-k.k c.keeps_its_rules.ensures.some_vertex c.keeps_its_rules.ensures.vertices
     (omega (arith, c.requires.one_each, f.one_maker_each, f.small)) (c.requires.one_each ∙ long) c.requires.keys (omega arith) c.loop-k.invariant.so_far c.loop-k.invariant.ends

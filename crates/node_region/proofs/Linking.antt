@@ -9,7 +9,7 @@ use Rattle.node_region.specs.declared.chunk.Slot.{Slot}
 use Rattle.node_region.specs.declared.chunk.FreeList.{FreeList}
 use Rattle.node_region.specs.declared.tables.Tables.{Tables}
 use Rattle.node_region.specs.Pool.{AreDifferent}
-use Rattle.node_region.specs.Tables.{slots_of, places_of, cells_in, links_in, cell_of, hint_kept, next_of, thread, told_after, free_in, IsTail}
+use Rattle.node_region.specs.Tables.{entries_of, cells_in, links_in, cell_of, hint_kept, next_of, thread, told_after, free_in, IsTail}
 use Rattle.node_region.specs.Kept.{KeepsTables, IsFree, CanLink, IsLinked}
 use Rattle.node_region.proofs.Threads.{thread-last, thread-longer, told-in, told-same, thread-same, thread-kept, thread-split, told-split, different-front, different-apart}
 use Rattle.node_region.proofs.Entries.{next-set_same, entry-read}
@@ -62,13 +62,13 @@ linked first slots front behind k b some more tail behind_tail once from n s y e
 pub tail-free : (t : Tables) (front behind : FreeList) → CanLink t front behind → front.count ≢ 0 → IsFree t front.tail
 tail-free t front behind can some =
     let first = t.first in
-    let l = links_in (slots_of t.chunks.items) in
+    let l = links_in (entries_of t.slots.items) in
     let k = front.count - 1 in
     let more : front.count ≡ suc k = omega (arith, some) in
     let at : told_after first l k front.head ≡ front.tail = can.tail k (omega (arith, more)) in
-    let here : IsIn front.tail (free_in first (slots_of t.chunks.items) front) =
-    subst (λ (i : ℕ). IsIn i (free_in first (slots_of t.chunks.items) front)) at (subst (λ (c : ℕ). IsIn (told_after first l k front.head) (thread first l c front.head)) (sym more) (told-in first l k front.head)) in
-    can.free front.tail (IsIn-append front.tail (free_in first (slots_of t.chunks.items) front) (free_in first (slots_of t.chunks.items) behind) (inl here))
+    let here : IsIn front.tail (free_in first (entries_of t.slots.items) front) =
+    subst (λ (i : ℕ). IsIn i (free_in first (entries_of t.slots.items) front)) at (subst (λ (c : ℕ). IsIn (told_after first l k front.head) (thread first l c front.head)) (sym more) (told-in first l k front.head)) in
+    can.free front.tail (IsIn-append front.tail (free_in first (entries_of t.slots.items) front) (free_in first (entries_of t.slots.items) behind) (inl here))
 
 -- an entry tells no cell exactly where it isn't used
 none-unused : (s : Slot) → cell_of s ≡ None → s.used ≡ false
@@ -85,12 +85,12 @@ unused-none s unused = rw unused refl
 
 -- the entry of the last number of the first list was written
 pub linked-written : (t u : Tables) (front behind : FreeList) → CanLink t front behind → front.count ≢ 0 → behind.count ≢ 0
-    → (n : ℕ) (s y : Slot) → IsEntry t.first (slots_of t.chunks.items) n front.tail s → KeepsTables t u
-    → slots_of u.chunks.items ≡ set (slots_of t.chunks.items) n y → places_of u.chunks.items ≡ places_of t.chunks.items
+    → (n : ℕ) (s y : Slot) → IsEntry t.first (entries_of t.slots.items) n front.tail s → KeepsTables t u
+    → entries_of u.slots.items ≡ set (entries_of t.slots.items) n y → entries_of u.places.items ≡ entries_of t.places.items
     → y.used ≡ s.used → y.link ≡ behind.head → y.turn ≡ s.turn → hint_kept y ≡ hint_kept s → IsLinked t front behind u (both front behind)
 linked-written t u front behind can some more n s y e kept slots places used link turn hint =
     let first = t.first in
-    let old = slots_of t.chunks.items in
+    let old = entries_of t.slots.items in
     let free = tail-free t front behind can some in
     let none : cell_of s ≡ None = sym (entry-read (λ x. cell_of x) first old n front.tail s e.number e.within e.read) ∙ free.no_cell in
     let cell : cell_of y ≡ cell_of s = unused-none y (used ∙ none-unused s none) ∙ sym none in
@@ -101,7 +101,7 @@ linked-written t u front behind can some more n s y e kept slots places used lin
       cells = ap cells_in slots ∙ field-kept (λ x. cell_of x) first old n front.tail s y e cell;
       turns = ap (λ xs. map (λ x. x.turn) xs) slots ∙ field-kept (λ x. x.turn) first old n front.tail s y e turn;
       hints = ap (λ xs. map (λ x. hint_kept x) xs) slots ∙ field-kept (λ x. hint_kept x) first old n front.tail s y e hint;
-      free = ap (λ k. free_in k (slots_of u.chunks.items) (both front behind)) kept.first ∙ ap (λ xs. free_in first xs (both front behind)) slots ∙ one.0;
+      free = ap (λ k. free_in k (entries_of u.slots.items) (both front behind)) kept.first ∙ ap (λ xs. free_in first xs (both front behind)) slots ∙ one.0;
       count = refl;
       tail = rw (kept.first, slots) one.1;
     }

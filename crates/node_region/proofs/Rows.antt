@@ -1,14 +1,17 @@
 -- Tables in a row: where the entries of each stand among all entries, and what a write to one changes.
-use Rattle.std.proofs.Common.{◌≡◌, ℕ, zero, suc, ◌+◌, ◌-◌, ◌<◌, ◌≤◌, List, [], ◌∷◌, ◌++◌, length, get_or, set, take, refl, sym, ap, ◌∙◌, arith, zero-add, add-zero, length-append}
-use Rattle.std.specs.List.{flat_map}
-use Rattle.std.proofs.lemmas.List.{take_more, append-nil, set-append_left, set-append_right, take_all}
+use Rattle.std.proofs.Common.{◌≡◌, ℕ, zero, suc, ◌+◌, ◌-◌, ◌<◌, ◌≤◌, List, [], ◌∷◌, ◌++◌, length, get_or, set, take, map, refl, sym, ap, ◌∙◌, arith, zero-add, add-zero, length-append}
+use Rattle.std.specs.Prelude.{Vec}
+use Rattle.std.specs.declared.alloc.Global.{Global}
+use Rattle.std.specs.List.{flat_map, sum_by, AllByRecursion}
+use Rattle.std.proofs.Math.Seq.{map-set_same}
+use Rattle.std.proofs.lemmas.List.{take_more, append-nil, set-append_left, set-append_right, take_all, take-map, length-map, map-append}
+use Rattle.std.proofs.lemmas.List.Sums.{sum_by-cons}
 use Rattle.std.proofs.lemmas.List.Concat.{flat_map-append, get_or-flat_map}
-use Rattle.node_region.specs.declared.chunk.Chunk.{Chunk}
+use Rattle.std.proofs.lemmas.List.FromFn.{map-range_with_len_more, length-map-range_with_len}
 use Rattle.node_region.specs.declared.chunk.At.{At}
 use Rattle.node_region.specs.declared.chunk.Slot.{Slot}
 use Rattle.node_region.specs.declared.chunk.Place.{Place}
-use Rattle.std.proofs.lemmas.List.FromFn.{map-range_with_len_more, length-map-range_with_len}
-use Rattle.node_region.specs.Tables.{slots_of, places_of, start_of, AreInRow, IsAt, entry_number, fresh_slot, fresh_slots}
+use Rattle.node_region.specs.Tables.{entries_of, lengths_of, start_of, firsts_from, AreInRow, IsAt, entry_number, fresh_slot, fresh_slots}
 
 -- an element of one piece is replaced: so it is in the pieces put end to end
 pub set-flat_map : {X A : Type 0} (f : X → List A) (xs : List X) (i j : ℕ) (y e : X) (a : A) → i < length xs → j < length (f (get_or xs i e))
@@ -22,114 +25,155 @@ set-flat_map f (x ∷ xs) (suc i) j y e a hi hj same =
     let behind = set-append_right (f x) (flat_map f xs) (length (f x)) (length (f x) + before + j) a refl (omega arith) in
     rw (long, behind, left) (ap (λ p. f x ++ p) (set-flat_map f xs i j y e a (omega (arith, hi)) hj same))
 
--- an element is replaced by one of the same piece
-pub flat_map-set_same : {X A : Type 0} (f : X → List A) (xs : List X) (i : ℕ) (y e : X) → f y ≡ f (get_or xs i e) → flat_map f (set xs i y) ≡ flat_map f xs
-flat_map-set_same f [] i y e same = refl
-flat_map-set_same f (x ∷ xs) zero y e same = ap (λ p. p ++ flat_map f xs) same
-flat_map-set_same f (x ∷ xs) (suc i) y e same = ap (λ p. f x ++ p) (flat_map-set_same f xs i y e same)
+-- how many that are together
+abbrev total : List ℕ → ℕ
+total ns = sum_by (λ n. n) ns
 
--- the next table begins where this one ends
-pub start-more : (chunks : List Chunk) (k : ℕ) (d : Chunk) → k < length chunks → start_of chunks (k + 1) ≡ start_of chunks k + length (get_or chunks k d).slots.items
-start-more chunks k d h =
-    let c = get_or chunks k d in
-    ap (λ xs. length (slots_of xs)) (take_more chunks k d h)
-    ∙ ap length (flat_map-append (λ x. x.slots.items) (take k chunks) (c ∷ []))
-    ∙ length-append (slots_of (take k chunks)) (c.slots.items ++ [])
-    ∙ ap (λ xs. start_of chunks k + length xs) (append-nil c.slots.items)
+total-more : (n : ℕ) (ns : List ℕ) → total (n ∷ ns) ≡ n + total ns
+total-more n ns = sum_by-cons (λ n. n) n ns
 
--- a table's first number
-pub row-first : (first : ℕ) (chunks : List Chunk) → AreInRow first chunks → (k : ℕ) (d : Chunk) → k < length chunks → (get_or chunks k d).first ≡ first + start_of chunks k
-row-first first [] row k d h = absurd (omega (arith, h))
-row-first first (c ∷ cs) row zero d h = row.0 ∙ sym (add-zero first)
-row-first first (c ∷ cs) row (suc k) d h =
-    let next = row-first (first + length c.slots.items) cs row.1.1.1 k d (omega (arith, h)) in
-    omega (arith, next, length-append c.slots.items (slots_of (take k cs)))
-
--- a table has as many places as numbers
-pub row-places : (first : ℕ) (chunks : List Chunk) → AreInRow first chunks → (k : ℕ) (d : Chunk) → k < length chunks → length (get_or chunks k d).places.items ≡ length (get_or chunks k d).slots.items
-row-places first [] row k d h = absurd (omega (arith, h))
-row-places first (c ∷ cs) row zero d h = row.1.0
-row-places first (c ∷ cs) row (suc k) d h = row-places (first + length c.slots.items) cs row.1.1.1 k d (omega (arith, h))
-
--- as many places as numbers stand before a table
-pub places-before : (first : ℕ) (chunks : List Chunk) → AreInRow first chunks → (k : ℕ) → length (places_of (take k chunks)) ≡ start_of chunks k
-places-before first chunks row zero = refl
-places-before first [] row (suc k) = refl
-places-before first (c ∷ cs) row (suc k) =
-    omega (arith, row.1.0, places-before (first + length c.slots.items) cs row.1.1.1 k, length-append c.slots.items (slots_of (take k cs)), length-append c.places.items (places_of (take k cs)))
+-- as many entries stand before a table as the tables before it have in all
+start-total : {A : Type 0} (tables : List (Vec A Global)) (k : ℕ) → start_of tables k ≡ total (take k (lengths_of tables))
+start-total tables zero = refl
+start-total [] (suc k) = refl
+start-total (v ∷ vs) (suc k) = length-append v.items (entries_of (take k vs)) ∙ ap (λ n. length v.items + n) (start-total vs k) ∙ sym (total-more (length v.items) (take k (lengths_of vs)))
 
 -- and in all
-pub places-all : (first : ℕ) (chunks : List Chunk) → AreInRow first chunks → length (places_of chunks) ≡ length (slots_of chunks)
-places-all first [] row = refl
-places-all first (c ∷ cs) row =
-    omega (arith, row.1.0, places-all (first + length c.slots.items) cs row.1.1.1, length-append c.slots.items (slots_of cs), length-append c.places.items (places_of cs))
+all-total : {A : Type 0} (tables : List (Vec A Global)) → length (entries_of tables) ≡ total (lengths_of tables)
+all-total [] = refl
+all-total (v ∷ vs) = length-append v.items (entries_of vs) ∙ ap (λ n. length v.items + n) (all-total vs) ∙ sym (total-more (length v.items) (lengths_of vs))
 
--- a table is replaced by one as long that begins with the same number
-pub row-set : (first : ℕ) (chunks : List Chunk) → AreInRow first chunks → (k : ℕ) (c d : Chunk) → c.first ≡ (get_or chunks k d).first
-    → length c.slots.items ≡ length (get_or chunks k d).slots.items → length c.places.items ≡ length (get_or chunks k d).places.items → AreInRow first (set chunks k c)
-row-set first [] row k c d at slots places = row
-row-set first (x ∷ xs) row zero c d at slots places = (at ∙ row.0, (places ∙ row.1.0 ∙ sym slots, (omega (arith, slots, row.1.1.0), rw slots row.1.1.1)))
-row-set first (x ∷ xs) row (suc k) c d at slots places = (row.0, (row.1.0, (row.1.1.0, row-set (first + length x.slots.items) xs row.1.1.1 k c d at slots places)))
+-- no entry stands behind the last table
+pub start-all : {A : Type 0} (tables : List (Vec A Global)) (k : ℕ) → k ≡ length tables → start_of tables k ≡ length (entries_of tables)
+start-all tables k last = ap (λ xs. length (entries_of xs)) (take_all k tables (omega (arith, last)))
+
+-- the next table begins where this one ends
+start-more : {A : Type 0} (tables : List (Vec A Global)) (k : ℕ) (d : Vec A Global) → k < length tables → start_of tables (k + 1) ≡ start_of tables k + length (get_or tables k d).items
+start-more tables k d h =
+    let v = get_or tables k d in
+    ap (λ xs. length (entries_of xs)) (take_more tables k d h)
+    ∙ ap length (flat_map-append (λ x. x.items) (take k tables) (v ∷ []))
+    ∙ length-append (entries_of (take k tables)) (v.items ++ [])
+    ∙ ap (λ xs. start_of tables k + length xs) (append-nil v.items)
+
+-- there is one first number for each table
+firsts-length : (first : ℕ) (ns : List ℕ) → length (firsts_from first ns) ≡ length ns
+firsts-length first [] = refl
+firsts-length first (n ∷ ns) = ap suc (firsts-length (first + n) ns)
+
+-- a table's first number comes behind the numbers of the tables before it
+firsts-at : (first : ℕ) (ns : List ℕ) (k d : ℕ) → k < length ns → get_or (firsts_from first ns) k d ≡ first + total (take k ns)
+firsts-at first [] k d h = absurd (omega (arith, h))
+firsts-at first (n ∷ ns) zero d h = sym (add-zero first)
+firsts-at first (n ∷ ns) (suc k) d h =
+    let on : first + n + total (take k ns) ≡ first + total (n ∷ take k ns) = omega (arith, total-more n (take k ns)) in
+    firsts-at (first + n) ns k d (omega (arith, h)) ∙ on
+
+-- where tables stand behind others
+firsts-append : (first : ℕ) (ns ms : List ℕ) → firsts_from first (ns ++ ms) ≡ firsts_from first ns ++ firsts_from (first + total ns) ms
+firsts-append first [] ms = rw add-zero refl
+firsts-append first (n ∷ ns) ms =
+    let on : first + n + total ns ≡ first + total (n ∷ ns) = omega (arith, total-more n ns) in
+    ap (λ l. first ∷ l) (firsts-append (first + n) ns ms ∙ ap (λ k. firsts_from (first + n) ns ++ firsts_from k ms) on)
+
+some-append : (ns ms : List ℕ) → AllByRecursion (λ n. 1 ≤ n) ns → AllByRecursion (λ n. 1 ≤ n) ms → AllByRecursion (λ n. 1 ≤ n) (ns ++ ms)
+some-append [] ms front behind = behind
+some-append (n ∷ ns) ms front behind = (front.0, some-append ns ms front.1 behind)
+
+-- there are as many tables of numbers as first numbers
+pub slots-many : (first : ℕ) (firsts : List ℕ) (slots : List (Vec Slot Global)) (places : List (Vec Place Global)) → AreInRow first firsts slots places → length slots ≡ length firsts
+slots-many first firsts slots places row = sym (ap length row.0 ∙ firsts-length first (lengths_of slots) ∙ length-map slots (λ v. length v.items))
+
+-- and as many tables of places
+pub places-many : (first : ℕ) (firsts : List ℕ) (slots : List (Vec Slot Global)) (places : List (Vec Place Global)) → AreInRow first firsts slots places → length places ≡ length firsts
+places-many first firsts slots places row =
+    sym (length-map places (λ v. length v.items)) ∙ ap length row.1.0 ∙ length-map slots (λ v. length v.items) ∙ slots-many first firsts slots places row
+
+-- a table's first number
+pub row-first : (first : ℕ) (firsts : List ℕ) (slots : List (Vec Slot Global)) (places : List (Vec Place Global)) → AreInRow first firsts slots places
+    → (k v : ℕ) → k < length firsts → v ≡ get_or firsts k v → v ≡ first + start_of slots k
+row-first first firsts slots places row k v h read =
+    let many = slots-many first firsts slots places row in
+    read ∙ ap (λ l. get_or l k v) row.0 ∙ firsts-at first (lengths_of slots) k v (omega (arith, h, many, length-map slots (λ v. length v.items))) ∙ ap (λ n. first + n) (sym (start-total slots k))
+
+-- as many places as numbers stand before a table
+places-before : (first : ℕ) (firsts : List ℕ) (slots : List (Vec Slot Global)) (places : List (Vec Place Global)) → AreInRow first firsts slots places
+    → (k : ℕ) → start_of places k ≡ start_of slots k
+places-before first firsts slots places row k = start-total places k ∙ ap (λ ns. total (take k ns)) row.1.0 ∙ sym (start-total slots k)
+
+-- and in all
+pub places-all : (first : ℕ) (firsts : List ℕ) (slots : List (Vec Slot Global)) (places : List (Vec Place Global)) → AreInRow first firsts slots places
+    → length (entries_of places) ≡ length (entries_of slots)
+places-all first firsts slots places row = all-total places ∙ ap total row.1.0 ∙ sym (all-total slots)
+
+-- where there is an entry of a number, there is one of a place
+pub place-at : (first : ℕ) (firsts : List ℕ) (slots : List (Vec Slot Global)) (places : List (Vec Place Global)) → AreInRow first firsts slots places
+    → (at : At) → IsAt slots at → IsAt places at
+place-at first firsts slots places row at is = record {
+  chunk = omega (arith, is.chunk, slots-many first firsts slots places row, places-many first firsts slots places row);
+  index = omega (arith, is.index, places-before first firsts slots places row at.chunk, places-before first firsts slots places row (at.chunk + 1));
+}
+
+-- and both have one place among all
+pub place-number : (first : ℕ) (firsts : List ℕ) (slots : List (Vec Slot Global)) (places : List (Vec Place Global)) → AreInRow first firsts slots places
+    → (at : At) → entry_number places at ≡ entry_number slots at
+place-number first firsts slots places row at = ap (λ n. n + at.index) (places-before first firsts slots places row at.chunk)
+
+-- tables as long as these stand in the same row
+pub row-kept : (first : ℕ) (firsts : List ℕ) (slots : List (Vec Slot Global)) (places : List (Vec Place Global)) → AreInRow first firsts slots places
+    → (ss : List (Vec Slot Global)) (ps : List (Vec Place Global)) → lengths_of ss ≡ lengths_of slots → lengths_of ps ≡ lengths_of places → AreInRow first firsts ss ps
+row-kept first firsts slots places row ss ps as_slots as_places = rw (as_slots, as_places) row
 
 -- one row behind another
-pub row-append : (first : ℕ) (xs ys : List Chunk) → AreInRow first xs → AreInRow (first + length (slots_of xs)) ys → AreInRow first (xs ++ ys)
-row-append first [] ys row behind = rw add-zero at behind
-row-append first (x ∷ xs) ys row behind =
-    let long = length-append x.slots.items (slots_of xs) in
-    let on : first + length (x.slots.items ++ slots_of xs) ≡ first + length x.slots.items + length (slots_of xs) = omega (arith, long) in
-    (row.0, (row.1.0, (row.1.1.0, row-append (first + length x.slots.items) xs ys row.1.1.1 (rw on at behind))))
+pub row-append : (first : ℕ) (firsts : List ℕ) (slots : List (Vec Slot Global)) (places : List (Vec Place Global)) → AreInRow first firsts slots places
+    → (m : ℕ) → m ≡ length (entries_of slots) → (fs : List ℕ) (ss : List (Vec Slot Global)) (ps : List (Vec Place Global)) → AreInRow (first + m) fs ss ps
+    → AreInRow first (firsts ++ fs) (slots ++ ss) (places ++ ps)
+row-append first firsts slots places row m long fs ss ps behind =
+    let slot_lengths : lengths_of (slots ++ ss) ≡ lengths_of slots ++ lengths_of ss = map-append (λ v. length v.items) slots ss in
+    let place_lengths : lengths_of (places ++ ps) ≡ lengths_of places ++ lengths_of ps = map-append (λ v. length v.items) places ps in
+    let both = firsts-append first (lengths_of slots) (lengths_of ss) in
+    let on : first + m ≡ first + total (lengths_of slots) = ap (λ n. first + n) (long ∙ all-total slots) in
+    rw (slot_lengths, place_lengths) (
+      ap (λ l. l ++ fs) row.0 ∙ ap (λ l. firsts_from first (lengths_of slots) ++ l) (behind.0 ∙ ap (λ n. firsts_from n (lengths_of ss)) on) ∙ sym both,
+      (ap (λ l. l ++ lengths_of ps) row.1.0 ∙ ap (λ l. lengths_of slots ++ l) behind.1.0, some-append (lengths_of slots) (lengths_of ss) row.1.1 behind.1.1),
+    )
 
 -- the entry is in its table
-pub at-within : (chunks : List Chunk) (at : At) → IsAt chunks at → (c : Chunk) → at.index < length (get_or chunks at.chunk c).slots.items
-at-within chunks at is c = omega (arith, is.index, start-more chunks at.chunk c is.chunk)
+pub at-within : {A : Type 0} (tables : List (Vec A Global)) (at : At) → IsAt tables at → (v : Vec A Global) → v ≡ get_or tables at.chunk v → at.index < length v.items
+at-within tables at is v table =
+    let there : length (get_or tables at.chunk v).items ≡ length v.items = ap (λ (x : Vec _ Global). length x.items) (sym table) in
+    omega (arith, is.index, start-more tables at.chunk v is.chunk, there)
+
+-- an entry of a table is one
+pub at-located : {A : Type 0} (tables : List (Vec A Global)) (at : At) → at.chunk < length tables → (v : Vec A Global) → v ≡ get_or tables at.chunk v → at.index < length v.items → IsAt tables at
+at-located tables at chunk v table index =
+    let there : length (get_or tables at.chunk v).items ≡ length v.items = ap (λ (x : Vec _ Global). length x.items) (sym table) in
+    record { chunk = chunk; index = omega (arith, index, start-more tables at.chunk v chunk, there) }
+
+-- where there is an entry there is a table
+pub some-tables : {A : Type 0} (tables : List (Vec A Global)) → 1 ≤ length (entries_of tables) → 0 < length tables
+some-tables [] some = absurd (omega (arith, some))
+some-tables (v ∷ vs) some = omega arith
 
 -- what stands in a table stands among all
-pub slot-read : (chunks : List Chunk) (at : At) → IsAt chunks at → (c : Chunk) (s : Slot) → c ≡ get_or chunks at.chunk c → s ≡ get_or c.slots.items at.index s
-    → s ≡ get_or (slots_of chunks) (entry_number chunks at) s
-slot-read chunks at is c s table entry =
-    let there = get_or-flat_map (λ x. x.slots.items) chunks at.chunk at.index c s is.chunk (at-within chunks at is c) in
-    entry ∙ ap (λ (x : Chunk). get_or x.slots.items at.index s) table ∙ sym there
-
-pub place-within : (first : ℕ) (chunks : List Chunk) → AreInRow first chunks → (at : At) → IsAt chunks at → (c : Chunk) → at.index < length (get_or chunks at.chunk c).places.items
-place-within first chunks row at is c = omega (arith, at-within chunks at is c, row-places first chunks row at.chunk c is.chunk)
-
-pub place-read : (first : ℕ) (chunks : List Chunk) → AreInRow first chunks → (at : At) → IsAt chunks at → (c : Chunk) (p : Place) → c ≡ get_or chunks at.chunk c → p ≡ get_or c.places.items at.index p
-    → p ≡ get_or (places_of chunks) (entry_number chunks at) p
-place-read first chunks row at is c p table entry =
-    let there = get_or-flat_map (λ x. x.places.items) chunks at.chunk at.index c p is.chunk (place-within first chunks row at is c) in
-    entry ∙ ap (λ (x : Chunk). get_or x.places.items at.index p) table ∙ sym (rw (places-before first chunks row at.chunk) at there)
+pub entry-read : {A : Type 0} (tables : List (Vec A Global)) (at : At) → IsAt tables at → (v : Vec A Global) (a : A) → v ≡ get_or tables at.chunk v → a ≡ get_or v.items at.index a
+    → a ≡ get_or (entries_of tables) (entry_number tables at) a
+entry-read tables at is v a table entry =
+    let within = at-within tables at is v table in
+    let there = get_or-flat_map (λ x. x.items) tables at.chunk at.index v a is.chunk (rw table at within) in
+    entry ∙ ap (λ (x : Vec _ Global). get_or x.items at.index a) table ∙ sym there
 
 -- a write into a table is a write among all
-pub slot-written : (chunks : List Chunk) (at : At) → IsAt chunks at → (c y : Chunk) (s : Slot) → c ≡ get_or chunks at.chunk c → y.slots.items ≡ set c.slots.items at.index s
-    → slots_of (set chunks at.chunk y) ≡ set (slots_of chunks) (entry_number chunks at) s
-slot-written chunks at is c y s table written =
-    set-flat_map (λ x. x.slots.items) chunks at.chunk at.index y c s is.chunk (at-within chunks at is c)
-    (written ∙ ap (λ (x : Chunk). set x.slots.items at.index s) table)
+pub entry-written : {A : Type 0} (tables : List (Vec A Global)) (at : At) → IsAt tables at → (v y : Vec A Global) (a : A) → v ≡ get_or tables at.chunk v → y.items ≡ set v.items at.index a
+    → entries_of (set tables at.chunk y) ≡ set (entries_of tables) (entry_number tables at) a
+entry-written tables at is v y a table written =
+    let within = at-within tables at is v table in
+    set-flat_map (λ x. x.items) tables at.chunk at.index y v a is.chunk (rw table at within)
+    (written ∙ ap (λ (x : Vec _ Global). set x.items at.index a) table)
 
-pub place-written : (first : ℕ) (chunks : List Chunk) → AreInRow first chunks → (at : At) → IsAt chunks at → (c y : Chunk) (p : Place) → c ≡ get_or chunks at.chunk c → y.places.items ≡ set c.places.items at.index p
-    → places_of (set chunks at.chunk y) ≡ set (places_of chunks) (entry_number chunks at) p
-place-written first chunks row at is c y p table written =
-    let there = set-flat_map (λ x. x.places.items) chunks at.chunk at.index y c p is.chunk (place-within first chunks row at is c)
-    (written ∙ ap (λ (x : Chunk). set x.places.items at.index p) table) in
-    rw (places-before first chunks row at.chunk) at there
-
--- the place is in its table
-pub place-inside : (first : ℕ) (chunks : List Chunk) → AreInRow first chunks → (at : At) → IsAt chunks at → (c : Chunk) → c ≡ get_or chunks at.chunk c → at.index < length c.places.items
-place-inside first chunks row at is c table = rw (table) (place-within first chunks row at is c)
-
--- a write of an entry leaves the tables in a row
-pub row-written : (first : ℕ) (chunks : List Chunk) → AreInRow first chunks → (k : ℕ) (c y : Chunk) → c ≡ get_or chunks k c → y.first ≡ c.first
-    → length y.slots.items ≡ length c.slots.items → length y.places.items ≡ length c.places.items → AreInRow first (set chunks k y)
-row-written first chunks row k c y table at slots places =
-    row-set first chunks row k y c (at ∙ ap (λ (x : Chunk). x.first) table) (slots ∙ ap (λ (x : Chunk). length x.slots.items) table) (places ∙ ap (λ (x : Chunk). length x.places.items) table)
-
--- a search: the table at k begins behind a number, or not
-pub below-start : (first : ℕ) (chunks : List Chunk) → AreInRow first chunks → (k : ℕ) (c : Chunk) → k < length chunks → c ≡ get_or chunks k c → c.first ≡ first + start_of chunks k
-below-start first chunks row k c h table = ap (λ (x : Chunk). x.first) table ∙ row-first first chunks row k c h
-
--- there is no number behind the last table
-pub start-all : (chunks : List Chunk) → start_of chunks (length chunks) ≡ length (slots_of chunks)
-start-all chunks = ap (λ xs. length (slots_of xs)) (take_all (length chunks) chunks (omega arith))
+-- and leaves the tables as long as they were
+pub lengths-written : {A : Type 0} (tables : List (Vec A Global)) (k : ℕ) (v y : Vec A Global) → v ≡ get_or tables k v → length y.items ≡ length v.items → lengths_of (set tables k y) ≡ lengths_of tables
+lengths-written tables k v y table long = map-set_same (λ x. length x.items) tables k y v (long ∙ ap (λ (x : Vec _ Global). length x.items) table)
 
 -- one more entry of a number that was never taken
 pub fresh-more : (first id : ℕ) → first ≤ id → fresh_slots first (id + 1 - first) ≡ fresh_slots first (id - first) ++ fresh_slot id ∷ []
@@ -137,22 +181,20 @@ fresh-more first id h =
     let one : id + 1 - first ≡ id - first + 1 = omega arith in
     rw one (map-range_with_len_more fresh_slot first (id - first) id (omega arith))
 
--- the tables of both, one behind the other, stand in a row, and their numbers add up
-pub both-row : (first : ℕ) (xs ys zs : List Chunk) (m : ℕ) → zs ≡ xs ++ ys → AreInRow first xs → m ≡ length (slots_of xs) → AreInRow (first + m) ys → AreInRow first zs
-both-row first xs ys zs m joined row long behind = rw joined (row-append first xs ys row (rw long at behind))
+-- so many entries
+pub fresh-length : (first count : ℕ) → length (fresh_slots first count) ≡ count
+fresh-length first count = length-map-range_with_len fresh_slot first count
 
-pub both-count : (xs ys zs : List Chunk) → zs ≡ xs ++ ys → length (slots_of zs) ≡ length (slots_of xs) + length (slots_of ys)
-both-count xs ys zs joined = rw (joined, flat_map-append (λ x. x.slots.items) xs ys) (length-append (slots_of xs) (slots_of ys))
+-- the numbers of two lists of tables add up
+pub both-count : {A : Type 0} (xs ys zs : List (Vec A Global)) → zs ≡ xs ++ ys → length (entries_of zs) ≡ length (entries_of xs) + length (entries_of ys)
+both-count xs ys zs joined = rw (joined, flat_map-append (λ x. x.items) xs ys) (length-append (entries_of xs) (entries_of ys))
 
--- a list of one
-pub one-list : {X : Type 0} (xs ys : List X) (x : X) → xs ≡ [] → ys ≡ xs ++ x ∷ [] → ys ≡ x ∷ []
-one-list xs ys x none more = rw none at more
+-- the entries of one table
+pub one-entries : {A : Type 0} (tables : List (Vec A Global)) (v : Vec A Global) → tables ≡ v ∷ [] → entries_of tables ≡ v.items
+one-entries tables v one = ap (λ l. entries_of l) one ∙ append-nil v.items
 
--- one table of numbers that were never taken stands in a row
-pub one-row : (first count : ℕ) (c : Chunk) (chunks : List Chunk) → 1 ≤ count → chunks ≡ c ∷ [] → c.first ≡ first → c.slots.items ≡ fresh_slots first count → length c.places.items ≡ count → AreInRow first chunks
-one-row first count c chunks some one at slots places =
-    let long = ap length slots ∙ length-map-range_with_len fresh_slot first count in
-    rw one (at, (places ∙ sym long, (omega (arith, long, some), tt)))
-
-pub one-count : (first count : ℕ) (c : Chunk) (chunks : List Chunk) → chunks ≡ c ∷ [] → c.slots.items ≡ fresh_slots first count → count ≡ length (slots_of chunks)
-one-count first count c chunks one slots = rw one (sym (ap length (append-nil c.slots.items) ∙ ap length slots ∙ length-map-range_with_len fresh_slot first count))
+-- one table of numbers stands in a row
+pub one-row : (first count : ℕ) (firsts : List ℕ) (slots : List (Vec Slot Global)) (places : List (Vec Place Global)) (s : Vec Slot Global) (p : Vec Place Global)
+    → 1 ≤ count → firsts ≡ first ∷ [] → slots ≡ s ∷ [] → places ≡ p ∷ [] → length s.items ≡ count → length p.items ≡ count → AreInRow first firsts slots places
+one-row first count firsts slots places s p some one one_slots one_places as_slots as_places =
+    rw (one_slots, one_places) (one, (ap (λ n. n ∷ []) (as_places ∙ sym as_slots), (omega (arith, as_slots, some), tt)))

@@ -8,7 +8,7 @@ use Rattle.node_region.specs.declared.chunk.FreeList.{FreeList}
 use Rattle.node_region.specs.declared.tables.Tables.{Tables}
 use Rattle.node_region.specs.declared.region.Region.TheInside.{Inside}
 use Rattle.node_region.specs.Pool.{CellPool, IsCovered, IsUsed, AreDifferent, with_taken, with_given_back, next_turn}
-use Rattle.node_region.specs.Tables.{slots_of, cells_in, links_in, cell_of, hint_kept, next_of, thread, told_after, free_in, IsTail}
+use Rattle.node_region.specs.Tables.{entries_of, cells_in, links_in, cell_of, hint_kept, next_of, thread, told_after, free_in, IsTail}
 use Rattle.node_region.specs.RegionFields.{pool_of, IsRegion}
 use Rattle.node_region.proofs.Threads.{told-same, thread-longer, thread-first, thread-length}
 use Rattle.std.proofs.lemmas.List.Sums.{count_by-le-length}
@@ -18,8 +18,8 @@ use Rattle.node_region.proofs.PoolLaws.{used-covered, with_taken-pool, with_give
 use Rattle.node_region.proofs.Views.{SlotWritten, IsSeenAs, region_with, slot-seen, free-apart, turn-read}
 
 -- the first free number, and the others
-pub free-split : (r : Inside) → r.free.count ≢ 0 → (pool_of r).free ≡ r.free.head ∷ thread r.tables.first (links_in (slots_of r.tables.chunks.items)) (r.free.count - 1) (next_of r.tables.first (links_in (slots_of r.tables.chunks.items)) r.free.head)
-free-split r some = thread-first r.tables.first (links_in (slots_of r.tables.chunks.items)) r.free.count r.free.head some
+pub free-split : (r : Inside) → r.free.count ≢ 0 → (pool_of r).free ≡ r.free.head ∷ thread r.tables.first (links_in (entries_of r.tables.slots.items)) (r.free.count - 1) (next_of r.tables.first (links_in (entries_of r.tables.slots.items)) r.free.head)
+free-split r some = thread-first r.tables.first (links_in (entries_of r.tables.slots.items)) r.free.count r.free.head some
 
 pub head-free : (r : Inside) → r.free.count ≢ 0 → IsIn r.free.head (pool_of r).free
 head-free r some = rw (free-split r some) (inl refl)
@@ -29,10 +29,10 @@ pub head-covered : (r : Inside) → IsRegion r → r.free.count ≢ 0 → IsCove
 head-covered r h some = h.pool.free_is_covered r.free.head (head-free r some)
 
 -- what the number of an entry tells
-pub entry-tells : (r : Inside) (n id : ℕ) (s : Slot) → IsEntry r.tables.first (slots_of r.tables.chunks.items) n id s → next_of r.tables.first (links_in (slots_of r.tables.chunks.items)) id ≡ s.link
+pub entry-tells : (r : Inside) (n id : ℕ) (s : Slot) → IsEntry r.tables.first (entries_of r.tables.slots.items) n id s → next_of r.tables.first (links_in (entries_of r.tables.slots.items)) id ≡ s.link
 entry-tells r n id s e =
     let place : id - r.tables.first ≡ n = omega (arith, e.number) in
-    rw place (get_or-map (λ (x : Slot). x.link) (slots_of r.tables.chunks.items) n s 0 e.within ∙ ap (λ (x : Slot). x.link) (sym e.read))
+    rw place (get_or-map (λ (x : Slot). x.link) (entries_of r.tables.slots.items) n s 0 e.within ∙ ap (λ (x : Slot). x.link) (sym e.read))
 
 -- the first free number was taken
 pub taken-seen : (r : Inside) → IsRegion r → r.free.count ≢ 0 → (t : Tables) (n : ℕ) (s y : Slot) → SlotWritten r t n r.free.head s y → (next : ℕ) (c : Cell)
@@ -40,7 +40,7 @@ pub taken-seen : (r : Inside) → IsRegion r → r.free.count ≢ 0 → (t : Tab
     → IsSeenAs (region_with r (record { count = r.free.count - 1; head = next; tail = r.free.tail }) t) (with_taken (pool_of r) r.free.head c)
 taken-seen r h some t n s y w next c was cell turn hint =
     let first = r.tables.first in
-    let slots = slots_of r.tables.chunks.items in
+    let slots = entries_of r.tables.slots.items in
     let id = r.free.head in
     let f : FreeList = record { count = r.free.count - 1; head = next; tail = r.free.tail } in
     let told : next_of first (links_in slots) id ≡ next = entry-tells r n id s w.entry ∙ was in
@@ -83,7 +83,7 @@ pub given_back-seen : (r : Inside) → IsRegion r → (t : Tables) (n id : ℕ) 
     → cell_of y ≡ None → y.link ≡ r.free.head → y.turn ≡ s.turn → hint_kept y ≡ hint_kept s → IsSeenAs (region_with r f t) (with_given_back (pool_of r) id)
 given_back-seen r h t n id s y w f front used cell link turn hint =
     let first = r.tables.first in
-    let slots = slots_of r.tables.chunks.items in
+    let slots = entries_of r.tables.slots.items in
     let l = links_in slots in
     let m = links_in (set slots n y) in
     let apart = free-apart r h id used in
@@ -100,11 +100,11 @@ given_back-seen r h t n id s y w f front used cell link turn hint =
     (with_given_back-pool (pool_of r) h.pool id used)
     (ends told)
   where
-    ends : next_of r.tables.first (links_in (set (slots_of r.tables.chunks.items) n y)) id ≡ r.free.head → IsTail r.tables.first (set (slots_of r.tables.chunks.items) n y) f
+    ends : next_of r.tables.first (links_in (set (entries_of r.tables.slots.items) n y)) id ≡ r.free.head → IsTail r.tables.first (set (entries_of r.tables.slots.items) n y) f
     ends told zero more = front.head ∙ sym (front.only (omega (arith, more, front.count)))
     ends told (suc k) more =
         let first = r.tables.first in
-        let slots = slots_of r.tables.chunks.items in
+        let slots = entries_of r.tables.slots.items in
         let long : r.free.count ≡ suc k = omega (arith, more, front.count) in
         let same = others-tell_same first slots n id s y w.entry (thread first (links_in slots) k r.free.head)
         (λ i is. free-apart r h id used i (rw long (thread-longer first (links_in slots) k r.free.head i is))) in
@@ -117,6 +117,6 @@ given_back-seen r h t n id s y w f front used cell link turn hint =
 pub few-free : (r : Inside) → IsRegion r → r.free.count ≤ 1048576
 few-free r h =
     let counted = h.pool.free_count in
-    let long = thread-length r.tables.first (links_in (slots_of r.tables.chunks.items)) r.free.count r.free.head in
+    let long = thread-length r.tables.first (links_in (entries_of r.tables.slots.items)) r.free.count r.free.head in
     let most = count_by-le-length is_none (pool_of r).cells in
     omega (arith, counted, long, most, h.pool.few_numbers, h.pool.range)

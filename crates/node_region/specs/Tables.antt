@@ -1,46 +1,49 @@
 -- The tables of a region: one after another they have an entry for each number and for each place.
-use Rattle.std.specs.Prelude.{◌≡◌, ℕ, zero, suc, ◌+◌, ◌-◌, ◌<◌, ◌≤◌, List, [], ◌∷◌, length, map, take, get_or, Option, Some, None, false, if◌then◌else◌}
-use Rattle.std.specs.List.{flat_map, range_with_len}
-use Rattle.std.specs.Coded.{×_prop, Unit-prop, Coded-set, coded_ℕ, le_prop}
+use Rattle.std.specs.Prelude.{◌≡◌, ℕ, zero, suc, ◌+◌, ◌-◌, ◌<◌, ◌≤◌, List, [], ◌∷◌, length, map, take, get_or, Option, Some, None, false, if◌then◌else◌, Vec}
+use Rattle.std.specs.List.{flat_map, range_with_len, AllByRecursion, AllByRecursion-prop}
+use Rattle.std.specs.Coded.{×_prop, Coded-set, coded_list, coded_ℕ, le_prop}
+use Rattle.std.specs.declared.alloc.Global.{Global}
 use Rattle.node_region.specs.declared.cell.Cell.{Cell}
 use Rattle.node_region.specs.declared.cell.Hint.{Hint}
 use Rattle.node_region.specs.declared.chunk.Slot.{Slot}
 use Rattle.node_region.specs.declared.chunk.Place.{Place}
-use Rattle.node_region.specs.declared.chunk.Chunk.{Chunk}
 use Rattle.node_region.specs.declared.chunk.At.{At}
 use Rattle.node_region.specs.declared.chunk.FreeList.{FreeList}
 
--- all entries of numbers, in order
-abbrev pub slots_of : List Chunk → List Slot
-slots_of chunks = flat_map (λ c. c.slots.items) chunks
+-- all entries of tables, in order
+abbrev pub entries_of : {A : Type 0} → List (Vec A Global) → List A
+entries_of tables = flat_map (λ v. v.items) tables
 
--- all entries of places, in order
-abbrev pub places_of : List Chunk → List Place
-places_of chunks = flat_map (λ c. c.places.items) chunks
+-- how many entries each table has
+abbrev pub lengths_of : {A : Type 0} → List (Vec A Global) → List ℕ
+lengths_of tables = map (λ v. length v.items) tables
 
--- how many numbers stand before a table
-abbrev pub start_of : List Chunk → ℕ → ℕ
-start_of chunks k = length (slots_of (take k chunks))
+-- how many entries stand before a table
+abbrev pub start_of : {A : Type 0} → List (Vec A Global) → ℕ → ℕ
+start_of tables k = length (entries_of (take k tables))
+
+-- the first number of each table, where the tables have so many numbers and the first of them begins with this one
+abbrev pub firsts_from : ℕ → List ℕ → List ℕ
+firsts_from first [] = []
+firsts_from first (n ∷ ns) = first ∷ firsts_from (first + n) ns
 
 -- the tables begin at these numbers one after another, and each has some numbers and as many places
-abbrev pub AreInRow : ℕ → List Chunk → Type 0
-AreInRow first [] = Unit {0}
-AreInRow first (c ∷ cs) = (c.first ≡ first) × ((length c.places.items ≡ length c.slots.items) × ((1 ≤ length c.slots.items) × AreInRow (first + length c.slots.items) cs))
+abbrev pub AreInRow : ℕ → List ℕ → List (Vec Slot Global) → List (Vec Place Global) → Type 0
+AreInRow first firsts slots places = (firsts ≡ firsts_from first (lengths_of slots)) × ((lengths_of places ≡ lengths_of slots) × AllByRecursion (λ n. 1 ≤ n) (lengths_of slots))
 
-pub AreInRow-prop : (first : ℕ) (chunks : List Chunk) → IsProp (AreInRow first chunks)
-AreInRow-prop first [] = Unit-prop
-AreInRow-prop first (c ∷ cs) =
-    ×_prop (Coded-set coded_ℕ c.first first)
-    (×_prop (Coded-set coded_ℕ (length c.places.items) (length c.slots.items)) (×_prop le_prop (AreInRow-prop (first + length c.slots.items) cs)))
+pub AreInRow-prop : (first : ℕ) (firsts : List ℕ) (slots : List (Vec Slot Global)) (places : List (Vec Place Global)) → IsProp (AreInRow first firsts slots places)
+AreInRow-prop first firsts slots places =
+    ×_prop (Coded-set (coded_list coded_ℕ) firsts (firsts_from first (lengths_of slots)))
+    (×_prop (Coded-set (coded_list coded_ℕ) (lengths_of places) (lengths_of slots)) (AllByRecursion-prop (λ n. 1 ≤ n) (λ n. le_prop) (lengths_of slots)))
 
 -- there is such an entry
-pub record IsAt (chunks : List Chunk) (at : At) : Type 0 where
-  pub chunk : at.chunk < length chunks
-  pub index : start_of chunks at.chunk + at.index < start_of chunks (at.chunk + 1)
+pub record IsAt {A : Type 0} (tables : List (Vec A Global)) (at : At) : Type 0 where
+  pub chunk : at.chunk < length tables
+  pub index : start_of tables at.chunk + at.index < start_of tables (at.chunk + 1)
 
 -- the place of an entry among all
-abbrev pub entry_number : List Chunk → At → ℕ
-entry_number chunks at = start_of chunks at.chunk + at.index
+abbrev pub entry_number : {A : Type 0} → List (Vec A Global) → At → ℕ
+entry_number tables at = start_of tables at.chunk + at.index
 
 -- what stands where nothing is noted
 abbrev pub no_hint : Hint

@@ -28,14 +28,6 @@ pub(crate) struct Place {
     pub(crate) note: Hint,
 }
 
-/// A table of the numbers and places from `first` on.
-#[derive(Drop)]
-pub(crate) struct Chunk {
-    pub(crate) first: u32,
-    pub(crate) slots: Vec<Slot>,
-    pub(crate) places: Vec<Place>,
-}
-
 /// Where a number's entry is: in which table, and where in it.
 #[derive(Clone, Copy)]
 pub(crate) struct At {

@@ -329,7 +329,7 @@ impl Region {
     pub fn chunks(&self) -> u32
         ensures { result ≡ self.now.chunks }
     {
-        self.tables.chunks.len() as u32
+        self.tables.firsts.len() as u32
     }
 
     /// How far the pool can grow.

@@ -1,5 +1,4 @@
-use Rattle.std.proofs.Common.{◌≡◌, ◌+◌, ◌-◌, length, arith}
-use Rattle.node_region.specs.Tables.{start_of}
+use Rattle.std.proofs.Common.{◌≡◌, ◌+◌, length, arith}
 use Rattle.node_region.proofs.Rows.{row-first, slots-many, start-all, places-all, at-located}
 use Rattle.node_region.proofs.tables.Tables.locate.Goals as goal
 

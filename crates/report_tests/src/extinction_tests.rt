@@ -6,9 +6,12 @@ ghost use Rattle.worked_graphs.specs.Graphs.{graph_from};
 use attributes::Attributes;
 use edge_order::Order;
 use extinction::{
-    Kind, extinctions, hierarchical, hierarchical_pieces, persistence, write_hierarchical,
+    Kind, extinctions, hierarchical, hierarchical_pieces, hierarchical_saliencies, persistence,
+    write_hierarchical,
 };
+use hg_base::Graph;
 use partition_tree::{Ranked, Tree};
+use saliency::{ends_share_roots, saliency};
 use std::alloc::Global;
 use std::process::Abort;
 use std::test::Fail;
@@ -52,6 +55,23 @@ const RANKED_LONG_PATH: [Ranked; 5] = [
     },
 ];
 
+// The saliencies of a graph's edges in its hierarchical watershed are these.
+fn has_saliencies(
+    rt: &impl Abort,
+    alloc: Global,
+    graph: &Graph,
+    hierarchy: &Tree,
+    values: &[u64],
+) -> Result<(), Fail>
+    requires { hierarchy.now.leaves ≡ graph.now.n }
+{
+    let shared = ends_share_roots(alloc, graph, hierarchy)?;
+    assert!(rt; shared);
+    let saliencies = saliency(alloc, graph, hierarchy)?;
+    assert_eq!(rt; saliencies.as_slice(), values);
+    Ok(())
+}
+
 // The persistences and the report of the hierarchical watershed of the graph with these areas and edges, of which the
 // list is the same in order of rank.
 fn found(
@@ -73,6 +93,8 @@ fn found(
     let values = persistence(alloc, &tree, &attributes, &minima, kind)?;
     let ends = extinctions(alloc, &tree, &attributes, &minima, kind)?;
     let hierarchy = hierarchical(alloc, &graph, &tree, &attributes, &minima, kind)?;
+    let drawn = hierarchical_saliencies(rt, alloc, &graph, &tree, &attributes, &minima, kind)?;
+    has_saliencies(rt, alloc, &graph, &hierarchy, &drawn)?;
     let text = write_hierarchical(alloc, &hierarchy, &ends)?;
     let pieces = hierarchical_pieces(rt, alloc, &hierarchy, &ends)?;
     assert_eq!(rt; pieces.joined(alloc)?.as_slice(), text.as_slice());

@@ -42,7 +42,7 @@ pub fn draw_saliencies(
     picture: &Picture,
     values: &[u64],
 ) -> Result<Vec<u8>, OutOfMemory>
-    requires { length values.now ≡ length (graph_of picture.now).edges }
+    requires one_each { length values.now ≡ length (graph_of picture.now).edges }
     ensures { (tree : ParentTree) → AreLowestAltitudes (graph_of picture.now) tree values.now → IfOk result (λ bytes. AreContoursIn picture.now tree bytes.items) }
 {
     let map = ContourMap::of_in_threads(rt, alloc, picture.width(), picture.height(), values)?;

@@ -3,8 +3,8 @@ use Rattle.hg_base.specs.Graph.{WeightedGraph}
 use Rattle.saliency.specs.Values.{AreLowestAltitudes}
 use Rattle.contour_map.proofs.drawn.draw_contours.Goals as goal
 
-pub draw_saliencies-requires : goal.draw_saliencies-requires
-draw_saliencies-requires g c = ap length c.deref.ensures.value ∙ c.in_ok-values.ensures.lowest.one_each ∙ ap (λ (h : WeightedGraph). length h.edges) c.requires.graph
+pub draw_saliencies-requires-clause-one_each : goal.draw_saliencies-requires-clause-one_each
+draw_saliencies-requires-clause-one_each g c κs within = ap length c.deref.ensures.value ∙ c.in_ok-values.ensures.lowest.one_each ∙ ap (λ (h : WeightedGraph). length h.edges) c.requires.graph
 
 pub returns : goal.returns
 returns g c =

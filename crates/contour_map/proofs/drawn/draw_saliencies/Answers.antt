@@ -7,7 +7,7 @@ use Rattle.contour_map.proofs.drawn.draw_saliencies.Goals as goal
 
 pub of_in_threads-requires-clause-values : goal.of_in_threads-requires-clause-values
 of_in_threads-requires-clause-values g c κs within =
-    rw (c.width.ensures.value, c.height.ensures.value) (edge-values c.args.picture.now (graph_of c.args.picture.now) c.args.values.now c.width.ensures.picture refl c.requires)
+    rw (c.width.ensures.value, c.height.ensures.value) (edge-values c.args.picture.now (graph_of c.args.picture.now) c.args.values.now c.width.ensures.picture refl c.requires.one_each)
 
 pub returns : goal.returns
 returns g c tree saliencies =

@@ -4,8 +4,8 @@ use Rattle.saliency.specs.Values.{AreLowestAltitudes}
 use Rattle.extinction.specs.HierarchicalWatershed.{hierarchical_of}
 use Rattle.contour_run.proofs.drawing.hierarchy_contours.Goals as goal
 
-pub draw_saliencies-requires : goal.draw_saliencies-requires
-draw_saliencies-requires g c = ap length c.deref.ensures.value ∙ c.in_ok-values.ensures.one_each ∙ ap (λ (h : WeightedGraph). length h.edges) c.requires.graph
+pub draw_saliencies-requires-clause-one_each : goal.draw_saliencies-requires-clause-one_each
+draw_saliencies-requires-clause-one_each g c κs within = ap length c.deref.ensures.value ∙ c.in_ok-values.ensures.one_each ∙ ap (λ (h : WeightedGraph). length h.edges) c.requires.graph
 
 pub returns : goal.returns
 returns g c =

@@ -1,1 +1,2 @@
+mod LeaflessForest
 mod SmallForest

@@ -4,6 +4,7 @@ ghost use Rattle.edge_laws.specs.Rank.{ranked};
 ghost use Rattle.tree_laws.specs.Worked.{edge};
 ghost use Rattle.partition_tree.specs.Ranked.{IsRankedList, edges_of};
 
+use crate::graphs::{APART, APART_ROWS, PATH, PATH_ROWS, graph_of};
 use edge_order::Order;
 use forest_witness::witness;
 use partition_tree::{Ranked, Tree};
@@ -12,7 +13,6 @@ use std::process::Abort;
 use std::test::Fail;
 use std::thread::Threads;
 use watershed_cut::{Minima, watershed};
-use worked_graphs::{APART, APART_ROWS, PATH, PATH_ROWS, graph_of};
 
 // Edges in order of number, two ends and a weight each, and the same in order of rank.
 const BETWEEN_MINIMA: [(u32, u32, u32); 4] = [(0, 1, 1), (1, 2, 3), (2, 3, 3), (3, 4, 1)];

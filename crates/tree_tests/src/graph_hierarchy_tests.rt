@@ -1,13 +1,13 @@
 ghost use Rattle.std.specs.Prelude.{◌≤◌};
 ghost use Rattle.graph_hierarchy.specs.Tilings.{AreTiles};
 
+use crate::graphs::graph_of;
 use graph_hierarchy::{GraphHierarchy, Tiling};
 use hg_base::OpenGate;
 use std::alloc::Global;
 use std::process::Abort;
 use std::test::Fail;
 use std::thread::Threads;
-use worked_graphs::graph_of;
 
 // The ends and weights of the edges of a cycle of four vertices.
 const CYCLE: [(u32, u32, u32); 4] = [(0, 1, 5), (2, 3, 6), (1, 2, 1), (0, 3, 2)];

@@ -3,6 +3,7 @@ ghost use Rattle.border_climb.specs.Stands.{Stands};
 ghost use Rattle.tile_plan.specs.Plan.{edges_at, root};
 ghost use Rattle.partition_tree.specs.Ranked.{IsRankedList};
 
+use crate::graphs::{APART, TRIANGLE, graph_of};
 use border_climb::Part;
 use edge_order::Order;
 use hg_base::{Graph, OpenGate, OutOfMemory};
@@ -13,7 +14,6 @@ use std::process::Abort;
 use std::test::Fail;
 use std::thread::Threads;
 use tile_plan::Plan;
-use worked_graphs::{APART, TRIANGLE, graph_of};
 
 // Edges in order of rank.
 const PATH: [Ranked; 2] = [

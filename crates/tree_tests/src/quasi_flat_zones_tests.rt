@@ -1,12 +1,12 @@
 ghost use Rattle.partition_tree.specs.Ranked.{IsRankedList};
 
+use crate::graphs::{APART, TRIANGLE};
 use hg_base::OutOfMemory;
 use partition_tree::{Ranked, Tree, write_tree};
 use quasi_flat_zones::zones;
 use std::alloc::Global;
 use std::process::Abort;
 use std::test::Fail;
-use worked_graphs::{APART, TRIANGLE};
 
 fn assert_zones(
     rt: &impl Abort,

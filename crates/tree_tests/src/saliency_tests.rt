@@ -1,5 +1,6 @@
 ghost use Rattle.partition_tree.specs.Ranked.{IsRankedList};
 
+use crate::graphs::{APART, PATH, TRIANGLE, graph_of};
 use hg_base::OutOfMemory;
 use partition_tree::{Ranked, Tree};
 use saliency::{
@@ -9,7 +10,6 @@ use std::alloc::Global;
 use std::process::Abort;
 use std::test::Fail;
 use std::thread::Threads;
-use worked_graphs::{APART, PATH, TRIANGLE, graph_of};
 
 // The edges of a cycle of four vertices, in order of rank.
 const RING: [Ranked; 4] = [

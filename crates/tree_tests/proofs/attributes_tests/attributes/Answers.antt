@@ -2,8 +2,8 @@ use Rattle.std.proofs.Common.{◌≡◌, ℕ, sym, ◌∙◌, ap, length}
 use Rattle.hg_base.specs.Graph.{WeightedGraph}
 use Rattle.tree_laws.specs.Tree.{tree_of, graph_tree}
 use Rattle.partition_tree.specs.Ranked.{edges_of}
-use Rattle.worked_graphs.specs.Graphs.{graph_from}
-use Rattle.report_tests.proofs.attributes_tests.attributes.Goals as goal
+use Rattle.tree_tests.specs.Graphs.{graph_from}
+use Rattle.tree_tests.proofs.attributes_tests.attributes.Goals as goal
 
 pub of-requires : goal.of-requires
 of-requires g c =

@@ -1,7 +1,7 @@
 use Rattle.std.proofs.Common.{ℕ, sym, ◌∙◌, ap, List, length}
 use Rattle.tree_laws.specs.Tree.{tree_of, graph_tree}
 use Rattle.component_tree.specs.Weighed.{weighed_graph}
-use Rattle.report_tests.proofs.component_tree_tests.components.Goals as goal
+use Rattle.tree_tests.proofs.component_tree_tests.components.Goals as goal
 
 pub component_tree-requires-clause-tree : goal.component_tree-requires-clause-tree
 component_tree-requires-clause-tree g c =

@@ -1,5 +1,5 @@
 use Rattle.std.proofs.Common.{arith}
-use Rattle.report_tests.proofs.label_writer_tests.labels_of.Goals as goal
+use Rattle.tree_tests.proofs.label_writer_tests.labels_of.Goals as goal
 
 pub new-requires : goal.new-requires
 new-requires g c = record {

@@ -1,14 +1,14 @@
 ghost use Rattle.std.specs.Prelude.{◌≡◌, length};
 ghost use Rattle.edge_laws.specs.Rank.{ranked};
 ghost use Rattle.partition_tree.specs.Ranked.{IsRankedList, edges_of};
-ghost use Rattle.worked_graphs.specs.Graphs.{graph_from};
+ghost use Rattle.tree_tests.specs.Graphs.{graph_from};
 
+use crate::graphs::{APART, APART_ROWS, PATH, PATH_ROWS, graph_with};
 use attributes::{Attributes, attributes_pieces, write_attributes};
 use partition_tree::{Ranked, Tree};
 use std::alloc::Global;
 use std::process::Abort;
 use std::test::Fail;
-use worked_graphs::{APART, APART_ROWS, PATH, PATH_ROWS, graph_with};
 
 // The attributes of the graph with these areas and edges, of which the list is the same in order of rank.
 fn attributes(

@@ -3,12 +3,12 @@ ghost use Rattle.tree_laws.specs.Tree.{altitude};
 ghost use Rattle.partition_tree.specs.TreeLists.{nodes};
 ghost use Rattle.partition_tree.specs.Ranked.{IsRankedList};
 
+use crate::graphs::{APART, PATH};
 use energy_cut::{least_cut, node_energies, write_energy};
 use partition_tree::{Ranked, Tree};
 use std::alloc::Global;
 use std::process::Abort;
 use std::test::Fail;
-use worked_graphs::{APART, PATH};
 
 // Whether all altitudes are below 2^32.
 fn is_low(tree: &Tree) -> bool

@@ -1,18 +1,19 @@
+// Small graphs: edges in order of number, two ends and a weight each, and edges in order of rank.
 ghost use Rattle.std.specs.Prelude.{◌≡◌, All, length, map, IfOk};
 ghost use Rattle.hg_base.specs.Graph.{JoinsTwo, with_unit_areas};
 ghost use Rattle.tree_laws.specs.Worked.{edge};
-ghost use Rattle.worked_graphs.specs.Graphs.{graph_from};
+ghost use Rattle.tree_tests.specs.Graphs.{graph_from};
 
 use hg_base::{Edge, Graph};
 use partition_tree::Ranked;
 use std::alloc::{AllocError, Global};
 use std::process::Abort;
 
-/// A path of four vertices: two ends and a weight for each edge, in order of number.
-pub const PATH_ROWS: [(u32, u32, u32); 3] = [(0, 1, 1), (1, 2, 5), (2, 3, 2)];
+// A path of four vertices: two ends and a weight for each edge, in order of number.
+pub(crate) const PATH_ROWS: [(u32, u32, u32); 3] = [(0, 1, 1), (1, 2, 5), (2, 3, 2)];
 
-/// Its edges in order of rank.
-pub const PATH: [Ranked; 3] = [
+// Its edges in order of rank.
+pub(crate) const PATH: [Ranked; 3] = [
     Ranked {
         u: 0,
         v: 1,
@@ -33,19 +34,19 @@ pub const PATH: [Ranked; 3] = [
     },
 ];
 
-/// One edge, beside a vertex that has none.
-pub const APART_ROWS: [(u32, u32, u32); 1] = [(0, 1, 4)];
+// One edge, beside a vertex that has none.
+pub(crate) const APART_ROWS: [(u32, u32, u32); 1] = [(0, 1, 4)];
 
-/// The same in order of rank.
-pub const APART: [Ranked; 1] = [Ranked {
+// The same in order of rank.
+pub(crate) const APART: [Ranked; 1] = [Ranked {
     u: 0,
     v: 1,
     edge: 0,
     altitude: 4,
 }];
 
-/// Three vertices of which each is joined to the others, by edges of one weight, in order of rank.
-pub const TRIANGLE: [Ranked; 3] = [
+// Three vertices of which each is joined to the others, by edges of one weight, in order of rank.
+pub(crate) const TRIANGLE: [Ranked; 3] = [
     Ranked {
         u: 0,
         v: 1,
@@ -84,8 +85,8 @@ fn edges_of(
     Ok(edges)
 }
 
-/// The graph of n vertices with these edges, two ends and a weight each, in which each vertex has the area 1.
-pub fn graph_of(
+// The graph of n vertices with these edges, two ends and a weight each, in which each vertex has the area 1.
+pub(crate) fn graph_of(
     rt: &impl Abort,
     alloc: Global,
     n: u32,
@@ -97,8 +98,8 @@ pub fn graph_of(
     Ok(Graph::from_edges(n, edges).expect(rt, "the edges of a graph"))
 }
 
-/// The graph with these areas, one for each vertex, and these edges.
-pub fn graph_with(
+// The graph with these areas, one for each vertex, and these edges.
+pub(crate) fn graph_with(
     rt: &impl Abort,
     alloc: Global,
     areas: &[u32],

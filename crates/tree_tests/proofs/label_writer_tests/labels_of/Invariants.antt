@@ -1,6 +1,6 @@
 use Rattle.std.proofs.Common.{◌≡◌, All, length}
 use Rattle.hg_base.specs.Labels.{IsLabel}
-use Rattle.report_tests.proofs.label_writer_tests.labels_of.Given as goal
+use Rattle.tree_tests.proofs.label_writer_tests.labels_of.Given as goal
 
 -- the labels so far are labels
 abbrev pub invariant-loop-label : goal.invariant-loop-label

@@ -5,6 +5,7 @@ ghost use Rattle.tree_laws.specs.Worked.{edge};
 ghost use Rattle.partition_tree.specs.Ranked.{IsRankedList, edges_of};
 ghost use Rattle.component_tree.specs.Weighed.{weighed_graph};
 
+use crate::graphs::graph_of;
 use component_tree::{
     ComponentTree, Side, Values, component_tree, components_pieces, weighed, write_components,
 };
@@ -12,7 +13,6 @@ use partition_tree::{Ranked, Tree};
 use std::alloc::Global;
 use std::process::Abort;
 use std::test::Fail;
-use worked_graphs::graph_of;
 
 // The edges of a picture of 2 by 2 pixels, two ends and a weight each.
 const SQUARE: [(u32, u32, u32); 4] = [(0, 1, 3), (0, 2, 3), (1, 3, 6), (2, 3, 6)];

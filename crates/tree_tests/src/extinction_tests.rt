@@ -1,8 +1,9 @@
 ghost use Rattle.std.specs.Prelude.{◌≡◌, length};
 ghost use Rattle.edge_laws.specs.Rank.{ranked};
 ghost use Rattle.partition_tree.specs.Ranked.{IsRankedList, edges_of};
-ghost use Rattle.worked_graphs.specs.Graphs.{graph_from};
+ghost use Rattle.tree_tests.specs.Graphs.{graph_from};
 
+use crate::graphs::{APART, APART_ROWS, PATH, PATH_ROWS, graph_with};
 use attributes::Attributes;
 use edge_order::Order;
 use extinction::{
@@ -17,7 +18,6 @@ use std::process::Abort;
 use std::test::Fail;
 use std::thread::Threads;
 use watershed_cut::Minima;
-use worked_graphs::{APART, APART_ROWS, PATH, PATH_ROWS, graph_with};
 
 // Edges in order of number, two ends and a weight each, and the same in order of rank.
 const LONG_PATH: [(u32, u32, u32); 5] = [(0, 1, 1), (1, 2, 4), (2, 3, 2), (3, 4, 6), (4, 5, 1)];

@@ -1,7 +1,7 @@
 use Rattle.std.proofs.Common.{◌≡◌, All, map, take}
 use Rattle.hg_base.specs.Graph.{JoinsTwo}
 use Rattle.tree_laws.specs.Worked.{edge}
-use Rattle.worked_graphs.proofs.graphs.edges_of.Given as goal
+use Rattle.tree_tests.proofs.graphs.edges_of.Given as goal
 
 -- the rows so far are edges
 abbrev pub invariant-loop-u : goal.invariant-loop-u

@@ -10,8 +10,3 @@ mod running;
 pub use drawing::draw;
 pub use request::{ContourRequest, contour_request_of};
 pub use running::run_contours;
-
-#[cfg(test)]
-mod tests;
-#[cfg(test)]
-mod worked;

@@ -8,6 +8,3 @@ mod rules;
 
 pub use decoder::{Decoder, read_graph};
 pub use laws::{edge_lists_are_spellings, faults_are_the_first, pictures_are_no_edge_lists};
-
-#[cfg(test)]
-mod tests;

@@ -19,6 +19,3 @@ pub use grid::graph_of;
 pub use laws::{header_tokens_are_tokens, picture_faults_are_the_first, pictures_are_spellings};
 pub use made::make_picture;
 pub use picture::Picture;
-
-#[cfg(test)]
-mod tests;

@@ -3,6 +3,10 @@
 #![tactic(auto)]
 
 #[cfg(test)]
+mod contour_lines;
+#[cfg(test)]
+mod contour_run_tests;
+#[cfg(test)]
 mod tests;
 #[cfg(test)]
 mod worked;

@@ -4,7 +4,7 @@ ghost use Rattle.hg_base.specs.declared.kind.Kind.TheVariants.{Area, Dynamics};
 ghost use Rattle.contour_run.specs.Command.{contours_requested};
 
 // Each option is given or isn't, and each has the default that is said of it.
-#[tactic(auto, unfolding(clap::proofs::OnLiterals::clap_on_literals, crate::specs::Command::higra_contours, crate::specs::Command::rows_on, higra_words::specs::Command::with_option))]
+#[tactic(auto, unfolding(clap::proofs::OnLiterals::clap_on_literals, contour_run::specs::Command::higra_contours, contour_run::specs::Command::rows_on, higra_words::specs::Command::with_option))]
 fn requests()
     ensures defaults { contours_requested [] ≡ Some (record { kind = Some Dynamics; tile = 64; workers = 4; made = None }) }
     ensures altitude { contours_requested (codes "--kind=altitude" ∷ []) ≡ Some (record { kind = None; tile = 64; workers = 4; made = None }) }
@@ -13,7 +13,7 @@ fn requests()
 {}
 
 // A text out of its row, an option that is unknown or without a text, and a word of its own ask for nothing.
-#[tactic(auto, unfolding(clap::proofs::OnLiterals::clap_on_literals, crate::specs::Command::higra_contours, crate::specs::Command::rows_on, higra_words::specs::Command::with_option))]
+#[tactic(auto, unfolding(clap::proofs::OnLiterals::clap_on_literals, contour_run::specs::Command::higra_contours, contour_run::specs::Command::rows_on, higra_words::specs::Command::with_option))]
 fn refused_lines()
     ensures kind { contours_requested (codes "--kind" ∷ codes "depth" ∷ []) ≡ None }
     ensures tile { contours_requested (codes "--tile=0" ∷ []) ≡ None }

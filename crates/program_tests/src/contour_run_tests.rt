@@ -1,4 +1,4 @@
-use super::run_contours;
+use contour_run::run_contours;
 use hg_base::{MemSink, MemSource, OpenGate, OutOfMemory};
 use higra_words::Words;
 use std::alloc::Global;

@@ -1,5 +1,5 @@
 use Rattle.std.proofs.Common.{◌≡◌, ◌≤◌, ◌-◌, length}
-use Rattle.graph_reader.proofs.tests.in_pieces.Given as goal
+use Rattle.reader_tests.proofs.pgm_reader_tests.in_pieces.Given as goal
 
 abbrev pub invariant-loop-at : goal.invariant-loop-at
 invariant-loop-at l = record { taken : l.decoder.taken ≡ l.at; within : l.at ≤ length l.input }

@@ -1,8 +1,8 @@
 ghost use Rattle.std.specs.Prelude.{◌≡◌, ◌≤◌, IsTrue, length};
 ghost use Rattle.pgm_reader.specs.Pgm.{is_picture};
 
-use super::*;
 use hg_base::{Edge, FaultKind, InputFault, OutOfMemory, ReadError};
+use pgm_reader::{Picture, PictureDecoder, graph_of, is_picture, make_picture, read_picture};
 use std::alloc::Global;
 use std::process::Abort;
 use std::test::*;

@@ -1,6 +1,6 @@
 ghost use Rattle.std.specs.Prelude.{◌≤◌, length};
 
-use super::*;
+use graph_reader::{Decoder, read_graph};
 use hg_base::{Edge, FaultKind, Graph, InputFault, OutOfMemory, ReadError};
 use std::alloc::Global;
 use std::process::Abort;

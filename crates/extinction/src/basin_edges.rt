@@ -1,40 +1,34 @@
 ghost use Rattle.std.specs.Prelude.{◌≡◌, ◌<◌, ◌≤◌, length, get_or, IfOk, IfSome, MatchOption, true, false};
 ghost use Rattle.edge_laws.specs.Rank.{ranked};
 ghost use Rattle.tree_laws.specs.Tree.{graph_tree};
-ghost use Rattle.attributes.specs.Attributes.{attributes_of};
 ghost use Rattle.partition_tree.specs.Ranked.{IsRankedEdge};
-ghost use Rattle.watershed_cut.specs.MinimumLabels.{minima_of};
 ghost use Rattle.watershed_cut.specs.Watershed.{tree_labelling};
 ghost use Rattle.extinction.specs.HierarchicalWatershed.{persistence_edges};
 ghost use Rattle.extinction.specs.Basins.{AreGrounded, basin, basin_edge, is_between, IsBasinList, IsBasinTree};
+ghost use Rattle.extinction.specs.Persistence.{persistences_of};
 
-use crate::persist::persistence;
-use attributes::Attributes;
 use hg_base::{Graph, Kind, Labels, OutOfMemory};
 use partition_tree::{Ranked, Tree};
 use std::alloc::{AllocError, Global};
-use watershed_cut::Minima;
 
-/// The tree of the edges between the basins of a graph's watershed cut, by persistence. These are the graph's tree,
-/// attributes and minima, and the labels of its watershed cut.
+/// The tree of the edges between the basins of a graph's watershed cut, by persistence. These are the graph's tree, the
+/// labels of its watershed cut, and the persistences of its tree's inner nodes.
 pub(crate) fn basin_tree(
     alloc: Global,
     graph: &Graph,
     tree: &Tree,
-    attributes: &Attributes,
-    minima: &Minima,
-    kind: Kind,
     labels: &Labels,
+    persistences: &[u64],
+    kind: Kind,
 ) -> Result<Tree, OutOfMemory>
     requires tree { tree.now ≡ graph_tree graph.now }
-    requires attributes { attributes.now ≡ attributes_of graph.now }
-    requires minima { minima.now ≡ minima_of graph.now }
     requires labels { labels.now ≡ tree_labelling graph.now }
+    requires persistences { persistences.now ≡ persistences_of graph.now kind }
     ensures { IfOk result (λ basins. IsBasinTree graph.now kind labels.now basins) }
 {
+    let _ = kind;
     graph.keeps_its_rules();
-    let persistences = persistence(alloc, tree, attributes, minima, kind)?;
-    let list = basin_list(alloc, graph, tree, labels, &persistences)?;
+    let list = basin_list(alloc, graph, tree, labels, persistences)?;
     Tree::of_list(alloc, labels.count(), &list)
 }
 

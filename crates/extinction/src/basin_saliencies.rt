@@ -3,17 +3,20 @@ ghost use Rattle.hg_base.specs.Graph.{first_end, second_end};
 ghost use Rattle.tree_laws.specs.Tree.{graph_tree};
 ghost use Rattle.attributes.specs.Attributes.{attributes_of};
 ghost use Rattle.watershed_cut.specs.MinimumLabels.{minima_of};
+ghost use Rattle.watershed_cut.specs.Watershed.{tree_labelling};
 ghost use Rattle.saliency.specs.Values.{AreLowestAltitudes};
 ghost use Rattle.extinction.specs.HierarchicalWatershed.{hierarchical_of};
 ghost use Rattle.extinction.specs.Basins.{BasinsShareRoots, IsBasinAltitude, AreBasinAltitudes, CanBasinValue};
+ghost use Rattle.extinction.specs.Persistence.{persistences_of};
 
 use crate::basin_edges::{basin_of, basin_tree};
+use crate::persist::persistence;
 use attributes::Attributes;
 use hg_base::{Graph, Kind, Labels, OutOfMemory};
 use partition_tree::{Ancestors, Tree};
 use rayon::prelude::*;
 use std::alloc::{AllocError, Global};
-use std::thread::Threads;
+use std::thread::{Threads, join};
 use watershed_cut::{Minima, watershed_labels};
 
 /// The saliency of each edge of a graph in its hierarchical watershed, by edge number: the altitude of the lowest common
@@ -35,10 +38,58 @@ pub fn hierarchical_saliencies(
     ensures { IfOk result (λ values. AreLowestAltitudes graph.now (hierarchical_of graph.now kind) values.items) }
 {
     graph.keeps_its_rules();
-    let labels = watershed_labels(alloc, graph, tree, minima)?;
-    let basins = basin_tree(alloc, graph, tree, attributes, minima, kind, &labels)?;
+    let (labels, persistences) = labels_beside_persistences(
+        rt, alloc, graph, tree, attributes, minima, kind,
+    )?;
+    let basins = basin_tree(alloc, graph, tree, &labels, &persistences, kind)?;
     let ancestors = Ancestors::of(alloc, &basins)?;
     altitudes(rt, alloc, graph, &labels, &basins, &ancestors)
+}
+
+// The labels of a graph's watershed cut, and beside them the persistences of the inner nodes of its tree.
+fn labels_beside_persistences(
+    rt: &(impl Threads + Sync),
+    alloc: Global,
+    graph: &Graph,
+    tree: &Tree,
+    attributes: &Attributes,
+    minima: &Minima,
+    kind: Kind,
+) -> Result<(Labels, Vec<u64>), OutOfMemory>
+    requires tree { tree.now ≡ graph_tree graph.now }
+    requires attributes { attributes.now ≡ attributes_of graph.now }
+    requires minima { minima.now ≡ minima_of graph.now }
+    ensures labels { IfOk result (λ found. found.0 ≡ tree_labelling graph.now) }
+    ensures persistences { IfOk result (λ found. found.1.items ≡ persistences_of graph.now kind) }
+{
+    let labels = || -> Result<Labels, OutOfMemory>
+        requires { (tree.now ≡ graph_tree graph.now) × (minima.now ≡ minima_of graph.now) }
+        ensures { IfOk result (λ labels. labels ≡ tree_labelling graph.entry.now) }
+    { watershed_labels(alloc, graph, tree, minima) };
+    let persistences = || -> Result<Vec<u64>, OutOfMemory>
+        requires { (tree.now ≡ graph_tree graph.now) × (attributes.now ≡ attributes_of graph.now) × (minima.now ≡ minima_of graph.now) }
+        ensures { IfOk result (λ values. values.items ≡ persistences_of graph.entry.now kind) }
+    { graph_persistences(alloc, graph, tree, attributes, minima, kind) };
+    let (labels, persistences) = join(rt, labels, persistences);
+    Ok((labels?, persistences?))
+}
+
+// The persistences of a graph, of which tree, attributes and minima are its own.
+fn graph_persistences(
+    alloc: Global,
+    graph: &Graph,
+    tree: &Tree,
+    attributes: &Attributes,
+    minima: &Minima,
+    kind: Kind,
+) -> Result<Vec<u64>, OutOfMemory>
+    requires tree { tree.now ≡ graph_tree graph.now }
+    requires attributes { attributes.now ≡ attributes_of graph.now }
+    requires minima { minima.now ≡ minima_of graph.now }
+    ensures { IfOk result (λ values. values.items ≡ persistences_of graph.now kind) }
+{
+    graph.keeps_its_rules();
+    persistence(alloc, tree, attributes, minima, kind)
 }
 
 // The value of each edge by a tree over the basins.

@@ -27,21 +27,19 @@ basin_list-requires-clause-basins c = subst (λ (l : Labelling). l.count ≤ 104
 pub basin_list-requires-clause-one_each : goal.basin_list-requires-clause-one_each
 basin_list-requires-clause-one_each c =
     let g = c.args.graph.now in
-    ap length (c.deref.ensures.value ∙ c.in_ok-persistences.ensures g (record { graph = c.keeps_its_rules.ensures.graph; tree = c.requires.tree; attributes = c.requires.attributes; minima = c.requires.minima }))
+    ap length c.requires.persistences
     ∙ persistences-length g c.args.kind ∙ sym (length-map (joins (ranked g)) (λ (x : ListedEdge). x.number)) ∙ ap (λ (t : ParentTree). length t.makers) (sym c.requires.tree)
 
 pub basin_list-requires-clause-inside : goal.basin_list-requires-clause-inside
 basin_list-requires-clause-inside c =
     let g = c.args.graph.now in
-    let p : c.deref.result.now ≡ persistences_of g c.args.kind =
-    c.deref.ensures.value ∙ c.in_ok-persistences.ensures g (record { graph = c.keeps_its_rules.ensures.graph; tree = c.requires.tree; attributes = c.requires.attributes; minima = c.requires.minima }) in
-    subst (λ (xs : List ℕ). AreGrounded g.n (basin c.args.labels.now) (persistence_edges (ranked g) xs)) (sym p)
+    subst (λ (xs : List ℕ). AreGrounded g.n (basin c.args.labels.now) (persistence_edges (ranked g) xs)) (sym c.requires.persistences)
     (subst (λ (l : Labelling). AreGrounded g.n (basin l) (persistence_edges (ranked g) (persistences_of g c.args.kind))) (sym c.requires.labels) (hierarchy-grounded g c.keeps_its_rules.ensures.graph c.args.kind))
 
 pub of_list-requires : goal.of_list-requires
 of_list-requires c =
-    subst (λ (n : ℕ). IsRankedList n c.deref-2.result.now) (sym c.count.ensures)
-    (subst (λ (xs : List Ranked). IsRankedList c.args.labels.now.count xs) (sym c.deref-2.ensures.value) c.in_ok-list.ensures.ranked_list)
+    subst (λ (n : ℕ). IsRankedList n c.deref.result.now) (sym c.count.ensures)
+    (subst (λ (xs : List Ranked). IsRankedList c.args.labels.now.count xs) (sym c.deref.ensures.value) c.in_ok-list.ensures.ranked_list)
 
 -- the tree that was made is that of the list
 pub returns : goal.returns
@@ -50,15 +48,13 @@ returns c =
     let l = c.args.labels.now in
     let list = c.in_ok-list.list.items in
     let fit = c.in_ok-list.ensures.ranked_list in
-    let p : c.deref.result.now ≡ persistences_of g c.args.kind =
-    c.deref.ensures.value ∙ c.in_ok-persistences.ensures g (record { graph = c.keeps_its_rules.ensures.graph; tree = c.requires.tree; attributes = c.requires.attributes; minima = c.requires.minima }) in
-    told c.of_list.result (λ t. t ≡ tree_of c.count.result (edges_of c.deref-2.result.now)) (λ t. IsBasinTree g c.args.kind l t)
+    told c.of_list.result (λ t. t ≡ tree_of c.count.result (edges_of c.deref.result.now)) (λ t. IsBasinTree g c.args.kind l t)
     (λ t made. record {
       edges = edges_of list;
-      tree = made ∙ ap (λ (n : ℕ). tree_of n (edges_of c.deref-2.result.now)) c.count.ensures ∙ ap (λ (xs : List Ranked). tree_of l.count (edges_of xs)) c.deref-2.ensures.value;
+      tree = made ∙ ap (λ (n : ℕ). tree_of n (edges_of c.deref.result.now)) c.count.ensures ∙ ap (λ (xs : List Ranked). tree_of l.count (edges_of xs)) c.deref.ensures.value;
       apart = edges-apart list;
       within = edges-within l.count list fit;
       by_weight = edges-by_weight l.count list fit;
-      between = subst (λ (xs : List ℕ). AreBetween (basin l) (persistence_edges (ranked g) xs) (edges_of list)) p c.in_ok-list.ensures.between;
+      between = subst (λ (xs : List ℕ). AreBetween (basin l) (persistence_edges (ranked g) xs) (edges_of list)) c.requires.persistences c.in_ok-list.ensures.between;
     })
     c.of_list.ensures.tree

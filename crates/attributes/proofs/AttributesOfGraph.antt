@@ -8,10 +8,10 @@ use Rattle.tree_laws.specs.Tree.{ParentTree, parent, graph_tree}
 use Rattle.tree_laws.specs.Levels.{is_above}
 use Rattle.partition_tree.specs.TreeLists.{nodes}
 use Rattle.attributes.specs.declared.gather.Operation.TheVariants as operations
-use Rattle.attributes.specs.Gathering.{gathered, neutral, AreOfLeaves}
+use Rattle.attributes.specs.Gathering.{gathered, neutral, AreOfLeaves, CanGather}
 use Rattle.attributes.specs.Attributes.{AttributeLists, area, floor, vertices_below, area_of, volume_under, dynamics_under, altitude_over, node_numbers, attributes_in, attributes_of}
 use Rattle.attributes.specs.AttributesFields.{AreOfNodes}
-use Rattle.attributes.specs.Sums.{AreSums}
+use Rattle.attributes.specs.Sums.{AreSums, GiveVolumes, GiveDynamics}
 use Rattle.attributes.proofs.Gathers.{sum-part, least-low}
 use Rattle.attributes.proofs.LowFloors.{floor-small}
 use Rattle.partition_tree.proofs.ListsByNumber.{values-agree}
@@ -93,6 +93,24 @@ products-fit g t floors areas products slice k v same =
 pub lowest-fit : (f : ℕ → ℕ) (xs : List ℕ) → gathered operations.Least f xs < 2 ^ 64
 lowest-fit f xs = let low = least-low (neutral operations.Least) (map f xs) in omega (arith, low)
 
+-- so each of the three lists can be gathered
+pub leaves-gather : (g : WeightedGraph) (t : ParentTree) (floors areas products floor_slice area_slice product_slice : List ℕ) → HasGraphTree g t → AreLeafValues g t floors areas products →
+    floor_slice ≡ floors → area_slice ≡ areas → product_slice ≡ products → CanGather operations.Sum t area_slice × CanGather operations.Sum t product_slice × CanGather operations.Least t floor_slice
+leaves-gather g t floors areas products floor_slice area_slice product_slice k v same_floors same_areas same_products = (
+  record {
+    one_each = leaf-length (area g) t.leaves areas area_slice v.areas_are same_areas;
+    fits = areas-fit g t floors areas products area_slice k v same_areas;
+  },
+  record {
+    one_each = leaf-length (λ x. area g x * floor g x) t.leaves products product_slice v.products_are same_products;
+    fits = products-fit g t floors areas products product_slice k v same_products;
+  },
+  record {
+    one_each = leaf-length (floor g) t.leaves floors floor_slice v.floors_are same_floors;
+    fits = lowest-fit (λ x. get_or floor_slice x 0) (range_with_len 0 t.leaves);
+  },
+)
+
 -- the sums of the nodes
 pub node-values : (g : WeightedGraph) (t : ParentTree) (floors areas products floor_slice area_slice product_slice node_areas sums lowest : List ℕ) → HasGraphTree g t → AreLeafValues g t floors areas products →
     area_slice ≡ areas → product_slice ≡ products → floor_slice ≡ floors →
@@ -145,6 +163,22 @@ pub dynamics-low : (g : WeightedGraph) (t : ParentTree) (areas sums lowest slice
 dynamics-low g t areas sums lowest slice k v same i h =
     subst (λ (xs : List ℕ). get_or xs i 0 ≤ altitude_over t i) (sym same)
     (subst (λ (y : ℕ). y ≤ altitude_over t i) (sym (v.lowest_are i h)) (lowest-low g t k i h))
+
+-- so volumes and dynamics can be made of the sums
+pub sums-give : (g : WeightedGraph) (t : ParentTree) (areas sums lowest area_slice sum_slice lowest_slice : List ℕ) → HasGraphTree g t → AreSums g t areas sums lowest →
+    area_slice ≡ areas → sum_slice ≡ sums → lowest_slice ≡ lowest → GiveVolumes t area_slice sum_slice × GiveDynamics t lowest_slice
+sums-give g t areas sums lowest area_slice sum_slice lowest_slice k v same_areas same_sums same_lowest = (
+  record {
+    one_area_each = ap (λ (xs : List ℕ). length xs) same_areas ∙ v.one_area_each;
+    one_product_each = ap (λ (xs : List ℕ). length xs) same_sums ∙ v.one_product_each;
+    fits = volumes-fit g t areas sums lowest area_slice k v same_areas;
+    low = volumes-low g t areas sums lowest area_slice sum_slice k v same_areas same_sums;
+  },
+  record {
+    one_each = ap (λ (xs : List ℕ). length xs) same_lowest ∙ v.one_lowest_each;
+    low = dynamics-low g t areas sums lowest lowest_slice k v same_lowest;
+  },
+)
 
 -- the lists of three kinds
 abbrev pub three_lists : List ℕ → List ℕ → List ℕ → AttributeLists

@@ -1,5 +1,5 @@
 -- Values of nodes, put together up a tree.
-use Rattle.std.specs.Prelude.{◌≡◌, ℕ, ◌+◌, ◌<◌, List, length, map, filter, min, get_or}
+use Rattle.std.specs.Prelude.{◌≡◌, ℕ, ◌+◌, ◌<◌, ◌^◌, List, length, map, filter, min, get_or, slice_index}
 use Rattle.std.specs.List.{range_with_len, fold}
 use Rattle.tree_laws.specs.Tree.{ParentTree}
 use Rattle.tree_laws.specs.Levels.{is_above}
@@ -19,6 +19,11 @@ neutral operations.Least = 18446744073709551615
 -- the values at these numbers put together
 abbrev pub gathered : Operation → (ℕ → ℕ) → List ℕ → ℕ
 gathered op f xs = fold (combined op) (neutral op) (map f xs)
+
+-- each leaf has a value, and all of them put together fit 64 bits
+pub record CanGather (op : Operation) (t : ParentTree) (leaves : List ℕ) : Type 0 where
+  pub one_each : length leaves ≡ t.leaves
+  pub fits : gathered op (λ x. slice_index leaves x) (range_with_len 0 t.leaves) < 2 ^ 64
 
 -- each node has the values of the nodes at and below it put together
 pub record AreGathered (op : Operation) (t : ParentTree) (values sums : List ℕ) : Type 0 where

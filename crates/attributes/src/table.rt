@@ -2,12 +2,14 @@ ghost use Rattle.std.specs.Prelude.{◌≡◌, ℕ, ◌*◌, ◌-◌, ◌^◌, �
 ghost use Rattle.tree_laws.specs.Tree.{graph_tree};
 ghost use Rattle.partition_tree.specs.TreeLists.{nodes};
 ghost use Rattle.attributes.specs.Attributes.{attributes_of, altitude_over, node_numbers};
+ghost use Rattle.attributes.specs.Sums.{GiveVolumes, GiveDynamics, volumes_by, dynamics_by};
 
 use crate::sums::NodeSums;
 use hg_base::{Graph, OutOfMemory};
 use partition_tree::Tree;
 use std::alloc::{AllocError, Global};
 use std::marker::Model;
+use std::thread::{Threads, join};
 
 /// The area, the volume and the dynamics of each node of a graph's tree, by number of node (Perret and others, Higra,
 /// 2019).
@@ -38,6 +40,19 @@ impl Attributes {
         ensures { IfOk result (λ attributes. attributes ≡ attributes_of graph.now) }
     {
         made(alloc, graph, tree).map_err(|_| OutOfMemory)
+    }
+
+    /// The same attributes, found in as many threads as can be had.
+    pub fn of_in_threads(
+        rt: &(impl Threads + Sync),
+        alloc: Global,
+        graph: &Graph,
+        tree: &Tree,
+    ) -> Result<Attributes, OutOfMemory>
+        requires { tree.now ≡ graph_tree graph.now }
+        ensures { IfOk result (λ attributes. attributes ≡ attributes_of graph.now) }
+    {
+        made_in_threads(rt, alloc, graph, tree).map_err(|_| OutOfMemory)
     }
 
     /// How many nodes there are. It takes no memory.
@@ -86,6 +101,56 @@ fn made(alloc: Global, graph: &Graph, tree: &Tree) -> Result<Attributes, AllocEr
         volumes,
         dynamics,
     })
+}
+
+fn made_in_threads(
+    rt: &(impl Threads + Sync),
+    alloc: Global,
+    graph: &Graph,
+    tree: &Tree,
+) -> Result<Attributes, AllocError>
+    requires { tree.now ≡ graph_tree graph.now }
+    ensures { IfOk result (λ attributes. attributes ≡ attributes_of graph.now) }
+{
+    graph.keeps_its_rules();
+    let sums = NodeSums::of_in_threads(rt, alloc, graph, tree)?;
+    let (volumes, dynamics) = volumes_beside_dynamics(
+        rt,
+        alloc,
+        tree,
+        &sums.areas,
+        &sums.products,
+        &sums.lowest,
+    )?;
+    Ok(Attributes {
+        areas: sums.areas,
+        volumes,
+        dynamics,
+    })
+}
+
+// The volumes of the nodes, and beside them the dynamics.
+fn volumes_beside_dynamics(
+    rt: &(impl Threads + Sync),
+    alloc: Global,
+    tree: &Tree,
+    areas: &[u64],
+    products: &[u64],
+    lowest: &[u64],
+) -> Result<(Vec<u64>, Vec<u64>), AllocError>
+    requires sums { GiveVolumes tree.now areas.now products.now × GiveDynamics tree.now lowest.now }
+    ensures { IfOk result (λ found. (found.0.items ≡ volumes_by tree.now areas.now products.now) × (found.1.items ≡ dynamics_by tree.now lowest.now)) }
+{
+    let volumes = || -> Result<Vec<u64>, AllocError>
+        requires { GiveVolumes tree.now areas.now products.now }
+        ensures { IfOk result (λ volumes. volumes.items ≡ volumes_by tree.entry.now areas.entry.now products.entry.now) }
+    { volumes(alloc, tree, areas, products) };
+    let dynamics = || -> Result<Vec<u64>, AllocError>
+        requires { GiveDynamics tree.now lowest.now }
+        ensures { IfOk result (λ dynamics. dynamics.items ≡ dynamics_by tree.entry.now lowest.entry.now) }
+    { dynamics(alloc, tree, lowest) };
+    let (volumes, dynamics) = join(rt, volumes, dynamics);
+    Ok((volumes?, dynamics?))
 }
 
 // The altitude of a node's parent, a root being its own parent.

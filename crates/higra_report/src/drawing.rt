@@ -110,7 +110,7 @@ fn draw_report(
         Report::Cut(kind, level) => {
             draw_regions(rt, alloc, graph, order, tree, kind, level, picture)
         }
-        Report::Energy(penalty) => draw_energy_cut(alloc, graph, tree, penalty, picture),
+        Report::Energy(penalty) => draw_energy_cut(rt, alloc, graph, tree, penalty, picture),
         Report::Tree
         | Report::Zones
         | Report::Saliency
@@ -165,6 +165,7 @@ fn draw_watershed(
 // The picture of the labels of the least cut of a picture's graph, with a penalty for each region.
 #[tactic(auto, using(crate::proofs::DrawingLemmas::energy_pixels, crate::proofs::EnergyLemmas::least_cut_is))]
 fn draw_energy_cut(
+    rt: &(impl Threads + Sync),
     alloc: Global,
     graph: &Graph,
     tree: &Tree,
@@ -175,7 +176,7 @@ fn draw_energy_cut(
     requires tree { IsTreeOf graph.now tree.now }
     ensures { IsDrawn (graph_energy_cut graph.now penalty).labels picture.now result }
 {
-    let energies = energies(alloc, graph, tree, penalty)?;
+    let energies = energies(rt, alloc, graph, tree, penalty)?;
     let cut = least_cut(alloc, tree, &energies)?;
     draw(alloc, cut.labels(), picture)
 }

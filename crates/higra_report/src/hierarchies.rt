@@ -1,5 +1,6 @@
 // The hierarchical watersheds of a graph, and the trees that are cut.
 ghost use Rattle.std.specs.Prelude.{◌≡◌, ◌^◌, ◌<◌, All, IfOk, length};
+ghost use Rattle.std.specs.Thread.{IsSync};
 ghost use Rattle.attributes.specs.Attributes.{attributes_of};
 ghost use Rattle.edge_order.specs.Order.{order_of};
 ghost use Rattle.extinction.specs.HierarchicalWatershed.{hierarchical_of};
@@ -11,7 +12,7 @@ ghost use Rattle.watershed_cut.specs.MinimumLabels.{minima_of};
 ghost use Rattle.graph_hierarchy.specs.Hierarchies.{IsTreeOf};
 ghost use Rattle.higra_report.specs.Reports.{cut_tree, graph_energies, regions};
 
-use super::sides::is_large;
+use super::sides::{attributes_of, is_large};
 use attributes::Attributes;
 use edge_order::Order;
 use energy_cut::node_energies;
@@ -89,8 +90,8 @@ impl Basins {
 }
 
 // The basins of a graph, whose attributes and minima are found side by side.
-fn side_by_side(
-    rt: &(impl Threads + Sync),
+fn side_by_side<R: Threads + Sync>(
+    rt: &R,
     alloc: Global,
     graph: &Graph,
     order: &Order,
@@ -102,9 +103,9 @@ fn side_by_side(
     ensures minima { IfOk result (λ basins. basins.minima ≡ minima_of graph.now) }
 {
     let attributes = || -> Result<Attributes, OutOfMemory>
-        requires { tree.now ≡ graph_tree graph.now }
+        requires { IsSync R.row × (tree.now ≡ graph_tree graph.now) }
         ensures { IfOk result (λ attributes. attributes ≡ attributes_of graph.entry.now) }
-    { Attributes::of(alloc, graph, tree) };
+    { Attributes::of_in_threads(rt, alloc, graph, tree) };
     let minima = || -> Result<Minima, OutOfMemory>
         requires { (order.now ≡ order_of graph.now) × (tree.now ≡ graph_tree graph.now) }
         ensures { IfOk result (λ minima. minima ≡ minima_of graph.entry.now) }
@@ -195,6 +196,7 @@ pub(crate) fn regions(
 /// The energies of the nodes of a graph's tree, with a penalty for each region.
 #[tactic(auto, using(crate::proofs::EnergyLemmas::altitudes_low, crate::proofs::EnergyLemmas::areas_each, crate::proofs::EnergyLemmas::areas_small, crate::proofs::EnergyLemmas::energies_made, crate::proofs::EnergyLemmas::energies_each))]
 pub(crate) fn energies(
+    rt: &(impl Threads + Sync),
     alloc: Global,
     graph: &Graph,
     tree: &Tree,
@@ -206,7 +208,7 @@ pub(crate) fn energies(
     ensures below { IfOk result (λ energies. All (λ e. e < 2 ^ 65) energies.items) }
 {
     graph.keeps_its_rules();
-    let attributes = Attributes::of(alloc, graph, tree)?;
+    let attributes = attributes_of(rt, alloc, graph, tree)?;
     let areas = node_areas(alloc, tree, &attributes)?;
     node_energies(alloc, tree, &areas, penalty)
 }

@@ -1,8 +1,11 @@
 // What is found in several threads where a graph has many edges.
 ghost use Rattle.std.specs.Prelude.{◌≡◌, IfOk};
+ghost use Rattle.attributes.specs.Attributes.{attributes_of};
 ghost use Rattle.edge_laws.specs.Saliencies.{saliencies};
 ghost use Rattle.graph_hierarchy.specs.Hierarchies.{IsTreeOf};
+ghost use Rattle.tree_laws.specs.Tree.{graph_tree};
 
+use attributes::Attributes;
 use hg_base::{Graph, OutOfMemory};
 use partition_tree::Tree;
 use saliency::{saliency, saliency_in_threads};
@@ -32,5 +35,23 @@ pub(crate) fn saliencies_of(
         saliency_in_threads(rt, alloc, graph, tree)
     } else {
         saliency(alloc, graph, tree)
+    }
+}
+
+/// The attributes of the nodes of a graph's own tree, found in threads where the graph is large. The error is want of
+/// memory.
+pub(crate) fn attributes_of(
+    rt: &(impl Threads + Sync),
+    alloc: Global,
+    graph: &Graph,
+    tree: &Tree,
+) -> Result<Attributes, OutOfMemory>
+    requires { tree.now ≡ graph_tree graph.now }
+    ensures { IfOk result (λ attributes. attributes ≡ attributes_of graph.now) }
+{
+    if is_large(graph) {
+        Attributes::of_in_threads(rt, alloc, graph, tree)
+    } else {
+        Attributes::of(alloc, graph, tree)
     }
 }

@@ -22,9 +22,9 @@ ghost use Rattle.higra_report.specs.Reports.{cut_tree, graph_energies, graph_ene
 ghost use Rattle.higra_report.specs.Theorems.{IsHierarchy};
 
 use super::hierarchies::{Basins, energies, hierarchy_and_extinctions, regions};
-use super::sides::saliencies_of;
+use super::sides::{attributes_of, saliencies_of};
 use super::summary::{summary_of, summary_pieces};
-use attributes::{Attributes, attributes_pieces};
+use attributes::attributes_pieces;
 use edge_order::Order;
 use energy_cut::{energy_pieces, least_cut};
 use extinction::hierarchical_pieces;
@@ -60,7 +60,9 @@ pub(crate) fn text_of(
         Report::Tree => tree_pieces(rt, alloc, tree),
         Report::Zones => zones_text(rt, alloc, graph, tree),
         Report::Saliency => saliency_pieces(rt, alloc, &saliencies_of(rt, alloc, graph, tree)?),
-        Report::Attributes => { attributes_pieces(rt, alloc, &Attributes::of(alloc, graph, tree)?) }
+        Report::Attributes => {
+            attributes_pieces(rt, alloc, &attributes_of(rt, alloc, graph, tree)?)
+        }
         Report::Minima => minima_pieces(rt, alloc, &Minima::of(alloc, graph, order, tree)?),
         Report::Watershed => watershed_text(rt, alloc, graph, order, tree),
         Report::Hierarchical(kind) => hierarchical_text(rt, alloc, graph, order, tree, kind),
@@ -156,7 +158,7 @@ fn energy_text(
     requires tree { IsTreeOf graph.now tree.now }
     ensures { IfOk result (λ text. text ≡ energy_report (graph_energy_cut graph.now penalty) (graph_energies graph.now penalty)) }
 {
-    let energies = energies(alloc, graph, tree, penalty)?;
+    let energies = energies(rt, alloc, graph, tree, penalty)?;
     let cut = least_cut(alloc, tree, &energies)?;
     energy_pieces(rt, alloc, &cut, &energies)
 }

@@ -9,10 +9,12 @@ use partition_tree::{Ranked, Tree};
 use std::alloc::Global;
 use std::process::Abort;
 use std::test::Fail;
+use std::thread::Threads;
 
-// The attributes of the graph with these areas and edges, of which the list is the same in order of rank.
+// The attributes of the graph with these areas and edges, of which the list is the same in order of rank. Threads find the
+// same.
 fn attributes(
-    rt: &impl Abort,
+    rt: &(impl Abort + Threads + Sync),
     alloc: Global,
     areas: &[u32],
     rows: &[(u32, u32, u32)],
@@ -23,7 +25,13 @@ fn attributes(
 {
     let graph = graph_with(rt, alloc, areas, rows)?;
     let tree = Tree::of_list(alloc, graph.n(), list)?;
-    Ok(Attributes::of(alloc, &graph, &tree)?)
+    let found = Attributes::of(alloc, &graph, &tree)?;
+    let threaded = Attributes::of_in_threads(rt, alloc, &graph, &tree)?;
+    assert_eq!(rt;
+        write_attributes(alloc, &threaded)?.as_slice(),
+        write_attributes(alloc, &found)?.as_slice()
+    );
+    Ok(found)
 }
 
 #[test]

@@ -1,10 +1,12 @@
 ghost use Rattle.std.specs.Prelude.{◌≡◌, length};
 ghost use Rattle.edge_laws.specs.Rank.{ranked};
 ghost use Rattle.partition_tree.specs.Ranked.{IsRankedList, edges_of};
+ghost use Rattle.tree_laws.specs.Tree.{graph_tree};
 ghost use Rattle.tree_tests.specs.Graphs.{graph_from};
 
 use crate::graphs::{APART, APART_ROWS, PATH, PATH_ROWS, graph_with};
 use attributes::{Attributes, attributes_pieces, write_attributes};
+use hg_base::Graph;
 use partition_tree::{Ranked, Tree};
 use std::alloc::Global;
 use std::process::Abort;
@@ -26,12 +28,26 @@ fn attributes(
     let graph = graph_with(rt, alloc, areas, rows)?;
     let tree = Tree::of_list(alloc, graph.n(), list)?;
     let found = Attributes::of(alloc, &graph, &tree)?;
-    let threaded = Attributes::of_in_threads(rt, alloc, &graph, &tree)?;
+    are_found_in_threads(rt, alloc, &graph, &tree, &found)?;
+    Ok(found)
+}
+
+// Compares the attributes of a graph with those that threads find.
+fn are_found_in_threads(
+    rt: &(impl Abort + Threads + Sync),
+    alloc: Global,
+    graph: &Graph,
+    tree: &Tree,
+    found: &Attributes,
+) -> Result<(), Fail>
+    requires tree { tree.now ≡ graph_tree graph.now }
+{
+    let threaded = Attributes::of_in_threads(rt, alloc, graph, tree)?;
     assert_eq!(rt;
         write_attributes(alloc, &threaded)?.as_slice(),
-        write_attributes(alloc, &found)?.as_slice()
+        write_attributes(alloc, found)?.as_slice()
     );
-    Ok(found)
+    Ok(())
 }
 
 #[test]

@@ -13,8 +13,8 @@ of-requires g c =
     ∙ ap (tree_of (length c.args.areas.now)) c.requires.ranked
     ∙ sym (ap graph_tree is)
 
-pub of_in_threads-requires : goal.of_in_threads-requires
-of_in_threads-requires g c κs within =
+pub are_found_in_threads-requires-clause-tree : goal.are_found_in_threads-requires-clause-tree
+are_found_in_threads-requires-clause-tree g c κs within =
     let is : c.in_ok-graph.graph ≡ graph_from (length c.args.areas.now) c.args.areas.now c.args.rows.now = c.in_ok-graph.ensures in
     c.in_ok-tree.ensures.tree
     ∙ ap (λ (n : ℕ). tree_of n (edges_of c.args.list.now)) (c.n.ensures.value ∙ ap (λ (h : WeightedGraph). h.n) is)

@@ -1,8 +1,8 @@
 //! A run whose workers wait for each other in the gate that they pass.
 ghost use Rattle.std.specs.Prelude.{◌<◌};
 
-use crate::running::run_passing;
-use hg_base::{Gate, GateEvent, MemSink, MemSource};
+use crate::running::{run_words, words_of};
+use hg_base::{Gate, GateEvent};
 use std::sync::atomic::{AtomicBool, AtomicU64, Ordering};
 use std::test::Fail;
 
@@ -92,16 +92,11 @@ impl Gate for Meeting {
 #[test]
 fn two_workers_meet(rt: HostRuntime) -> Result<(), Fail> {
     let gate = Meeting::new();
-    let input = "graph 4 4\n0 1 5\n2 3 6\n1 2 1\n0 3 2\n";
-    let bytes = Vec::from_slice(rt.alloc(), input.as_bytes())?;
-    let mut source = MemSource::new(bytes, 4096, Vec::new(rt.alloc()));
-    let out = MemSink::with_room(rt.alloc(), 100, 100, Vec::new(rt.alloc()))?;
-    let err = MemSink::with_room(rt.alloc(), 100, 100, Vec::new(rt.alloc()))?;
-    let words = ["tree", "--tile", "2", "--workers", "2"];
-    let ran = run_passing(&rt, rt.alloc(), &words, &mut source, out, err, &gate)?;
-    assert_eq!(rt; ran.code, 0);
-    let want = "tree 7 4\n0 5 0\n1 4 0\n2 4 0\n3 5 0\n4 6 1\n5 6 2\n6 6 5\n";
-    assert_eq!(rt; ran.out.taken(), want.as_bytes());
+    let input = b"graph 4 4\n0 1 5\n2 3 6\n1 2 1\n0 3 2\n";
+    let words = words_of(rt.alloc(), &["tree", "--tile", "2", "--workers", "2"])?;
+    let ran = run_words(&rt, rt.alloc(), &words, input, 100, &gate)?;
+    let want = b"tree 7 4\n0 5 0\n1 4 0\n2 4 0\n3 5 0\n4 6 1\n5 6 2\n6 6 5\n";
+    ran.is_as_wanted(&rt, 0, want, b"");
     assert!(rt; gate.first.met.load(Ordering::SeqCst));
     assert!(rt; gate.second.met.load(Ordering::SeqCst));
     for place in 0..7 {

@@ -1,7 +1,7 @@
 //! Runs that may lack memory: their workers pass no event of the gate or all of them. With ample memory they pass all;
 //! `trials/refusals.py` refuses one allocation of a run after the other.
-use crate::running::{Ran, run_passing};
-use hg_base::{Gate, GateEvent, MemSink, MemSource};
+use crate::running::{run_words, words_of};
+use hg_base::{Gate, GateEvent};
 use std::alloc::Global;
 use std::process::Abort;
 use std::sync::atomic::{AtomicU64, Ordering};
@@ -36,22 +36,9 @@ impl Gate for Counter {
 #[derive(Drop)]
 struct Row {
     words: &'static [&'static str],
-    input: &'static str,
-    report: &'static str,
+    input: &'static [u8],
+    report: &'static [u8],
     events: u64,
-}
-
-fn run_row(
-    rt: &(impl Threads + Sync),
-    alloc: Global,
-    row: &Row,
-    gate: &Counter,
-) -> Result<Ran, Fail> {
-    let bytes = Vec::from_slice(alloc, row.input.as_bytes())?;
-    let mut source = MemSource::new(bytes, 4096, Vec::new(alloc));
-    let out = MemSink::with_room(alloc, 200, 200, Vec::new(alloc))?;
-    let err = MemSink::with_room(alloc, 100, 100, Vec::new(alloc))?;
-    run_passing(rt, alloc, row.words, &mut source, out, err, gate)
 }
 
 /// The report after all events; or want of memory after none or all, and nothing is written.
@@ -61,7 +48,8 @@ fn no_event_or_all(
     row: &Row,
 ) -> Result<(), Fail> {
     let gate = Counter::new();
-    let ran = run_row(rt, alloc, row, &gate)?;
+    let words = words_of(alloc, row.words)?;
+    let ran = run_words(rt, alloc, &words, row.input, 200, &gate)?;
     let is_short = ran.code == 6;
     let events = gate.count();
     assert!(rt; is_short || ran.code == 0);
@@ -69,8 +57,8 @@ fn no_event_or_all(
         events == row.events || is_short && events == 0,
         "{events} events"
     );
-    let want = if is_short { "" } else { row.report };
-    assert_eq!(rt; ran.out.taken(), want.as_bytes());
+    let want = if is_short { b"" } else { row.report };
+    assert_eq!(rt; ran.out.taken(), want);
     Ok(())
 }
 
@@ -78,8 +66,8 @@ fn no_event_or_all(
 fn two_tiles(rt: HostRuntime) -> Result<(), Fail> {
     let row = Row {
         words: &["tree", "--tile", "2", "--workers", "2"],
-        input: "graph 4 4\n0 1 5\n2 3 6\n1 2 1\n0 3 2\n",
-        report: "tree 7 4\n0 5 0\n1 4 0\n2 4 0\n3 5 0\n4 6 1\n5 6 2\n6 6 5\n",
+        input: b"graph 4 4\n0 1 5\n2 3 6\n1 2 1\n0 3 2\n",
+        report: b"tree 7 4\n0 5 0\n1 4 0\n2 4 0\n3 5 0\n4 6 1\n5 6 2\n6 6 5\n",
         events: 6,
     };
     no_event_or_all(&rt, rt.alloc(), &row)
@@ -89,8 +77,8 @@ fn two_tiles(rt: HostRuntime) -> Result<(), Fail> {
 fn four_tiles_of_a_picture(rt: HostRuntime) -> Result<(), Fail> {
     let row = Row {
         words: &["hierarchical", "--tile", "1", "--workers", "3"],
-        input: "P5\n2 2\n9\n\0\x03\x03\t",
-        report: "tree 7 4\n0 4 0\n1 4 0\n2 5 0\n3 6 0\n4 5 0\n5 6 0\n6 6 0\nextinctions 1\n1 3\n",
+        input: b"P5\n2 2\n9\n\0\x03\x03\t",
+        report: b"tree 7 4\n0 4 0\n1 4 0\n2 5 0\n3 6 0\n4 5 0\n5 6 0\n6 6 0\nextinctions 1\n1 3\n",
         events: 14,
     };
     no_event_or_all(&rt, rt.alloc(), &row)

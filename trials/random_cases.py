@@ -158,7 +158,8 @@ def single(chance):
     """Words and an input of one graph or picture."""
     words = some_words(chance)
     if chance.random() < 0.06:
-        return words + ['--make', str(chance.randint(1, 4)), '--seed', str(chance.getrandbits(32))], b''
+        seed = chance.choice([[], ['--seed', '0'], ['--seed', '4294967295'], ['--seed', str(chance.getrandbits(32))]])
+        return words + ['--make', str(chance.randint(1, 4))] + seed, b''
     if chance.random() < 0.005:
         return [words[0], '--tile', '1'], too_many_tiles(chance)
     wants_picture = words[0] in ('mintree', 'maxtree') or 'pgm' in words

@@ -3,8 +3,11 @@ ghost use Rattle.std.specs.Prelude.{◌<◌};
 
 use crate::running::{run_words, words_of};
 use hg_base::{Gate, GateEvent};
+use std::alloc::Global;
+use std::process::Abort;
 use std::sync::atomic::{AtomicBool, AtomicU64, Ordering};
 use std::test::Fail;
+use std::thread::Threads;
 
 /// A worker that is to meet another: whether it has drawn, and whether it saw that the other has.
 #[derive(Drop)]
@@ -89,14 +92,24 @@ impl Gate for Meeting {
     }
 }
 
+/// Runs the program with two workers on a board of two tiles, and compares what it writes with what is wanted.
+fn runs_through(
+    rt: &(impl Threads + Sync + Abort),
+    alloc: Global,
+    gate: &Meeting,
+) -> Result<(), Fail> {
+    let input = b"graph 4 4\n0 1 5\n2 3 6\n1 2 1\n0 3 2\n";
+    let words = words_of(alloc, &["tree", "--tile", "2", "--workers", "2"])?;
+    let ran = run_words(rt, alloc, &words, input, 100, gate)?;
+    let want = b"tree 7 4\n0 5 0\n1 4 0\n2 4 0\n3 5 0\n4 6 1\n5 6 2\n6 6 5\n";
+    ran.is_as_wanted(rt, 0, want, b"");
+    Ok(())
+}
+
 #[test]
 fn two_workers_meet(rt: HostRuntime) -> Result<(), Fail> {
     let gate = Meeting::new();
-    let input = b"graph 4 4\n0 1 5\n2 3 6\n1 2 1\n0 3 2\n";
-    let words = words_of(rt.alloc(), &["tree", "--tile", "2", "--workers", "2"])?;
-    let ran = run_words(&rt, rt.alloc(), &words, input, 100, &gate)?;
-    let want = b"tree 7 4\n0 5 0\n1 4 0\n2 4 0\n3 5 0\n4 6 1\n5 6 2\n6 6 5\n";
-    ran.is_as_wanted(&rt, 0, want, b"");
+    runs_through(&rt, rt.alloc(), &gate)?;
     assert!(rt; gate.first.met.load(Ordering::SeqCst));
     assert!(rt; gate.second.met.load(Ordering::SeqCst));
     for place in 0..7 {

@@ -1,7 +1,8 @@
 //! Worked runs: inputs that are cut, calls that fail, and pictures of many tiles and of many regions.
-use crate::running::{Ran, run_passing, run_well, run_words, words_of};
+use crate::running::{Ran, run_passing, run_words, runs_to, words_of};
 use hg_base::{MemSink, MemSource, OpenGate};
 use std::alloc::{AllocError, Global};
+use std::process::Abort;
 use std::test::Fail;
 use std::thread::Threads;
 
@@ -47,8 +48,7 @@ fn edge_lists_that_are_cut(rt: HostRuntime) -> Result<(), Fail> {
         } else {
             TRUNCATED[length - 2]
         };
-        let ran = run_well(&rt, rt.alloc(), &["tree"], &PATH[..length])?;
-        ran.is_as_wanted(&rt, 3, b"", line);
+        runs_to(&rt, rt.alloc(), &["tree"], &PATH[..length], 3, b"", line)?;
     }
     Ok(())
 }
@@ -61,8 +61,7 @@ fn pictures_that_are_cut(rt: HostRuntime) -> Result<(), Fail> {
         } else {
             TRUNCATED[length - 2]
         };
-        let ran = run_well(&rt, rt.alloc(), &["tree"], &PICTURE[..length])?;
-        ran.is_as_wanted(&rt, 3, b"", line);
+        runs_to(&rt, rt.alloc(), &["tree"], &PICTURE[..length], 3, b"", line)?;
     }
     Ok(())
 }
@@ -80,59 +79,112 @@ fn failing_sink(alloc: Global, write: u64) -> Result<MemSink, Fail> {
     Ok(MemSink::with_room(alloc, 100, 4, fails)?)
 }
 
-/// Runs `tree` on the path, where the read, the write of the report and the write of the fault line with these numbers
-/// fail.
-fn run_with_failures(
-    rt: &(impl Threads + Sync),
-    alloc: Global,
+/// The numbers of the calls that fail: a read, a write of the report, and a write of the fault line.
+#[derive(Clone, Copy)]
+struct Failing {
     read: u64,
     write: u64,
     line: u64,
+}
+
+/// Runs `tree` on the path, where these calls fail.
+fn run_with_failures(
+    rt: &(impl Threads + Sync),
+    alloc: Global,
+    failing: Failing,
 ) -> Result<Ran, Fail> {
     let words = words_of(alloc, &["tree"])?;
-    let source = failing_source(alloc, read)?;
-    let out = failing_sink(alloc, write)?;
-    let err = failing_sink(alloc, line)?;
+    let source = failing_source(alloc, failing.read)?;
+    let out = failing_sink(alloc, failing.write)?;
+    let err = failing_sink(alloc, failing.line)?;
     Ok(run_passing(rt, alloc, &words, source, out, err, &OpenGate))
+}
+
+/// Runs `tree` on the path, where these calls fail, and compares how it ends with what is wanted.
+fn fails_to(
+    rt: &(impl Threads + Sync + Abort),
+    alloc: Global,
+    failing: Failing,
+    code: u8,
+    out: &[u8],
+    err: &[u8],
+) -> Result<(), Fail> {
+    let ran = run_with_failures(rt, alloc, failing)?;
+    ran.is_as_wanted(rt, code, out, err);
+    Ok(())
 }
 
 #[test]
 fn reads_that_fail(rt: HostRuntime) -> Result<(), Fail> {
     for read in 1..7 {
-        let ran = run_with_failures(&rt, rt.alloc(), read, 0, 0)?;
-        ran.is_as_wanted(&rt, 4, b"", b"higra: read failed\n");
-        let untold = run_with_failures(&rt, rt.alloc(), read, 0, 1)?;
-        untold.is_as_wanted(&rt, 4, b"", b"");
+        let told = Failing {
+            read,
+            write: 0,
+            line: 0,
+        };
+        fails_to(&rt, rt.alloc(), told, 4, b"", b"higra: read failed\n")?;
+        let untold = Failing {
+            read,
+            write: 0,
+            line: 1,
+        };
+        fails_to(&rt, rt.alloc(), untold, 4, b"", b"")?;
     }
-    let whole = run_with_failures(&rt, rt.alloc(), 7, 0, 0)?;
-    whole.is_as_wanted(&rt, 0, PATH_TREE, b"");
-    Ok(())
+    let none = Failing {
+        read: 7,
+        write: 0,
+        line: 0,
+    };
+    fails_to(&rt, rt.alloc(), none, 0, PATH_TREE, b"")
 }
 
 #[test]
 fn writes_that_fail(rt: HostRuntime) -> Result<(), Fail> {
     for write in 1..11 {
         let written = &PATH_TREE[..4 * (write - 1)];
-        let ran = run_with_failures(&rt, rt.alloc(), 0, write as u64, 0)?;
-        ran.is_as_wanted(&rt, 5, written, b"higra: write failed\n");
-        let untold = run_with_failures(&rt, rt.alloc(), 0, write as u64, 1)?;
-        untold.is_as_wanted(&rt, 5, written, b"");
+        let told = Failing {
+            read: 0,
+            write: write as u64,
+            line: 0,
+        };
+        fails_to(&rt, rt.alloc(), told, 5, written, b"higra: write failed\n")?;
+        let untold = Failing {
+            read: 0,
+            write: write as u64,
+            line: 1,
+        };
+        fails_to(&rt, rt.alloc(), untold, 5, written, b"")?;
     }
-    let whole = run_with_failures(&rt, rt.alloc(), 0, 11, 0)?;
-    whole.is_as_wanted(&rt, 0, PATH_TREE, b"");
+    let none = Failing {
+        read: 0,
+        write: 11,
+        line: 0,
+    };
+    fails_to(&rt, rt.alloc(), none, 0, PATH_TREE, b"")
+}
+
+/// Runs `tree` on the path into a sink with room for so many bytes, and compares how it ends with what is wanted.
+fn fills_to(
+    rt: &(impl Threads + Sync + Abort),
+    alloc: Global,
+    room: usize,
+    code: u8,
+    out: &[u8],
+    err: &[u8],
+) -> Result<(), Fail> {
+    let words = words_of(alloc, &["tree"])?;
+    let ran = run_words(rt, alloc, &words, PATH, room, &OpenGate)?;
+    ran.is_as_wanted(rt, code, out, err);
     Ok(())
 }
 
 #[test]
 fn sinks_that_are_full(rt: HostRuntime) -> Result<(), Fail> {
-    let words = words_of(rt.alloc(), &["tree"])?;
     for room in 0..39 {
-        let ran = run_words(&rt, rt.alloc(), &words, PATH, room, &OpenGate)?;
-        ran.is_as_wanted(&rt, 5, &PATH_TREE[..room], b"higra: write failed\n");
+        let written = &PATH_TREE[..room];
+        fills_to(&rt, rt.alloc(), room, 5, written, b"higra: write failed\n")?;
     }
-    let whole = run_words(&rt, rt.alloc(), &words, PATH, 39, &OpenGate)?;
-    whole.is_as_wanted(&rt, 0, PATH_TREE, b"");
-    Ok(())
+    fills_to(&rt, rt.alloc(), 39, 0, PATH_TREE, b"")
 }
 
 /// A run, the code with which it ends, and what it writes.
@@ -188,8 +240,14 @@ const ENDINGS: &[Ending] = &[
 #[test]
 fn runs_end_as_wanted(rt: HostRuntime) -> Result<(), Fail> {
     for ending in ENDINGS {
-        let ran = run_well(&rt, rt.alloc(), ending.words, ending.input)?;
-        ran.is_as_wanted(&rt, ending.code, ending.out, ending.err);
+        let Ending {
+            words,
+            input,
+            code,
+            out,
+            err,
+        } = ending;
+        runs_to(&rt, rt.alloc(), words, input, *code, out, err)?;
     }
     Ok(())
 }
@@ -220,32 +278,48 @@ fn drawn_labels(alloc: Global, head: &[u8], count: u16) -> Result<Vec<u8>, Alloc
     Ok(bytes)
 }
 
-// Each picture is one row of samples 0, 1, 0, 1 and so on, so that each pixel is a region. Of the first row, which has an
-// odd number of them, the head has the first.
+// A row of samples 0, 1, 0, 1 and so on, so that each pixel is a region. Their number is odd; the first stands in the head.
 #[test]
-fn pictures_of_many_regions(rt: HostRuntime) -> Result<(), Fail> {
-    let words = ["cut", "--form", "pgm"];
-    let most = repeated(rt.alloc(), b"P5 65535 1 1\n\0", b"\x01\0", 32_767)?;
+fn as_many_regions_as_can_be_drawn(rt: HostRuntime) -> Result<(), Fail> {
+    let stripes = repeated(rt.alloc(), b"P5 65535 1 1\n\0", b"\x01\0", 32_767)?;
     let drawn = drawn_labels(rt.alloc(), b"P5\n65535 1\n65535\n", 65_535)?;
-    let ran = run_well(&rt, rt.alloc(), &words, &most)?;
-    ran.is_as_wanted(&rt, 0, &drawn, b"");
-    let more = repeated(rt.alloc(), b"P5 65536 1 1\n", b"\0\x01", 32_768)?;
-    let refused = run_well(&rt, rt.alloc(), &words, &more)?;
-    let line = b"higra: input 14 TooManyLabels at 0 value 65536\n";
-    refused.is_as_wanted(&rt, 3, b"", line);
-    Ok(())
+    runs_to(
+        &rt,
+        rt.alloc(),
+        &["cut", "--form", "pgm"],
+        &stripes,
+        0,
+        &drawn,
+        b"",
+    )
 }
 
-// The edge list of two vertices with the most edges that there may be, and then with one line more.
+#[test]
+fn one_region_too_many(rt: HostRuntime) -> Result<(), Fail> {
+    let stripes = repeated(rt.alloc(), b"P5 65536 1 1\n", b"\0\x01", 32_768)?;
+    let line = b"higra: input 14 TooManyLabels at 0 value 65536\n";
+    runs_to(
+        &rt,
+        rt.alloc(),
+        &["cut", "--form", "pgm"],
+        &stripes,
+        3,
+        b"",
+        line,
+    )
+}
+
+// The edge list of two vertices with the most edges that there may be.
 #[test]
 fn as_many_edges_as_there_may_be(rt: HostRuntime) -> Result<(), Fail> {
-    let head = b"graph 2 4194304\n";
-    let most = repeated(rt.alloc(), head, b"0 1 7\n", 4_194_304)?;
-    let ran = run_well(&rt, rt.alloc(), &["tree"], &most)?;
-    ran.is_as_wanted(&rt, 0, b"tree 3 2\n0 2 0\n1 2 0\n2 2 7\n", b"");
-    let more = repeated(rt.alloc(), head, b"0 1 7\n", 4_194_305)?;
-    let refused = run_well(&rt, rt.alloc(), &["tree"], &more)?;
+    let input = repeated(rt.alloc(), b"graph 2 4194304\n", b"0 1 7\n", 4_194_304)?;
+    let tree = b"tree 3 2\n0 2 0\n1 2 0\n2 2 7\n";
+    runs_to(&rt, rt.alloc(), &["tree"], &input, 0, tree, b"")
+}
+
+#[test]
+fn one_line_too_many(rt: HostRuntime) -> Result<(), Fail> {
+    let input = repeated(rt.alloc(), b"graph 2 4194304\n", b"0 1 7\n", 4_194_305)?;
     let line = b"higra: input 5 Trailing at 25165840 value 0\n";
-    refused.is_as_wanted(&rt, 3, b"", line);
-    Ok(())
+    runs_to(&rt, rt.alloc(), &["tree"], &input, 3, b"", line)
 }

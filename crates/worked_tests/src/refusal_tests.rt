@@ -1,6 +1,6 @@
 //! Runs that may lack memory: their workers pass no event of the gate or all of them. With ample memory they pass all;
 //! `trials/refusals.py` refuses one allocation of a run after the other.
-use crate::running::{run_words, words_of};
+use crate::running::{Ran, run_words, words_of};
 use hg_base::{Gate, GateEvent};
 use std::alloc::Global;
 use std::process::Abort;
@@ -41,6 +41,16 @@ struct Row {
     events: u64,
 }
 
+fn run_row(
+    rt: &(impl Threads + Sync),
+    alloc: Global,
+    row: &Row,
+    gate: &Counter,
+) -> Result<Ran, Fail> {
+    let words = words_of(alloc, row.words)?;
+    run_words(rt, alloc, &words, row.input, 200, gate)
+}
+
 /// The report after all events; or want of memory after none or all, and nothing is written.
 fn no_event_or_all(
     rt: &(impl Threads + Sync + Abort),
@@ -48,8 +58,7 @@ fn no_event_or_all(
     row: &Row,
 ) -> Result<(), Fail> {
     let gate = Counter::new();
-    let words = words_of(alloc, row.words)?;
-    let ran = run_words(rt, alloc, &words, row.input, 200, &gate)?;
+    let ran = run_row(rt, alloc, row, &gate)?;
     let is_short = ran.code == 6;
     let events = gate.count();
     assert!(rt; is_short || ran.code == 0);

@@ -76,13 +76,19 @@ pub(crate) fn run_words<G: Gate>(
     Ok(run_passing(rt, alloc, words, source, out, err, gate))
 }
 
-/// Runs the program on these words and this input, where nothing outside fails.
-pub(crate) fn run_well(
-    rt: &(impl Threads + Sync),
+/// Runs the program on these words and this input, where nothing outside fails, and compares how it ends with what is
+/// wanted.
+pub(crate) fn runs_to(
+    rt: &(impl Threads + Sync + Abort),
     alloc: Global,
     texts: &[&str],
     input: &[u8],
-) -> Result<Ran, Fail> {
+    code: u8,
+    out: &[u8],
+    err: &[u8],
+) -> Result<(), Fail> {
     let words = words_of(alloc, texts)?;
-    run_words(rt, alloc, &words, input, 140_000, &OpenGate)
+    let ran = run_words(rt, alloc, &words, input, 140_000, &OpenGate)?;
+    ran.is_as_wanted(rt, code, out, err);
+    Ok(())
 }

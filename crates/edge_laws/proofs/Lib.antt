@@ -22,3 +22,4 @@ pub mod Weights
 pub mod Saliencies
 pub mod LawForms
 pub mod Exactly
+pub mod Alike

@@ -6,3 +6,4 @@ pub mod Saliencies
 pub mod Splice
 pub mod SideBySide
 pub mod Placed
+pub mod Alike

@@ -11,6 +11,8 @@ ghost use Rattle.edge_laws.specs.Saliency.{IsSaliency, MeetFirst};
 ghost use Rattle.edge_laws.specs.SideBySide.{SideBySide};
 ghost use Rattle.edge_laws.specs.Splice.{IsRedundant, LeadsOut, ComesAfter, IsAtEnd};
 ghost use Rattle.edge_laws.specs.Saliencies.{saliency};
+ghost use Rattle.edge_laws.specs.Placed.{ranks};
+ghost use Rattle.edge_laws.specs.Alike.{JoinAlike};
 
 /// The test `joined` says exactly where a walk through the edges of the list leads.
 pub fn joined_by_walks()
@@ -57,6 +59,14 @@ pub fn chains_under_other_names()
 /// The edges of rank below `k` join two vertices exactly where they are one or their chains share an edge of rank below `k`.
 pub fn joined_where_chains_meet()
     ensures { (s : EdgeList) (k x y : ℕ) → AreApart s → (Joined (below s k) x y ↔ ((x ≡ y) ⊎ ShareBelow s k x y)) }
+{}
+
+/// Two lists join the same vertices up to each rank exactly where the chains of each vertex have the same ranks. With the
+/// same edges added to both they still do.
+pub fn lists_that_join_alike()
+    ensures chains { (s t : EdgeList) (x : ℕ) → AreApart s → AreApart t → JoinAlike s t → ranks (chain s x) ≡ ranks (chain t x) }
+    ensures alike { (s t : EdgeList) → AreApart s → AreApart t → ((x : ℕ) → ranks (chain s x) ≡ ranks (chain t x)) → JoinAlike s t }
+    ensures more { (s t b : EdgeList) → JoinAlike s t → JoinAlike (s ++ b) (t ++ b) }
 {}
 
 /// What joins and what the chains are after one more edge `e` of any rank. Where its ends were joined by edges of

@@ -23,3 +23,4 @@ pub mod Saliencies
 pub mod LawForms
 pub mod Exactly
 pub mod Alike
+pub mod Without

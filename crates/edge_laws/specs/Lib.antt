@@ -7,3 +7,4 @@ pub mod Splice
 pub mod SideBySide
 pub mod Placed
 pub mod Alike
+pub mod Without

@@ -13,6 +13,7 @@ ghost use Rattle.edge_laws.specs.Splice.{IsRedundant, LeadsOut, ComesAfter, IsAt
 ghost use Rattle.edge_laws.specs.Saliencies.{saliency};
 ghost use Rattle.edge_laws.specs.Placed.{ranks};
 ghost use Rattle.edge_laws.specs.Alike.{JoinAlike};
+ghost use Rattle.edge_laws.specs.Without.{IsWithout};
 
 /// The test `joined` says exactly where a walk through the edges of the list leads.
 pub fn joined_by_walks()
@@ -67,6 +68,12 @@ pub fn lists_that_join_alike()
     ensures chains { (s t : EdgeList) (x : ℕ) → AreApart s → AreApart t → JoinAlike s t → ranks (chain s x) ≡ ranks (chain t x) }
     ensures alike { (s t : EdgeList) → AreApart s → AreApart t → ((x : ℕ) → ranks (chain s x) ≡ ranks (chain t x)) → JoinAlike s t }
     ensures more { (s t b : EdgeList) → JoinAlike s t → JoinAlike (s ++ b) (t ++ b) }
+{}
+
+/// An edge of the list that joins nothing can go: without it the joining edges and the chains are the same.
+pub fn what_joins_nothing_can_go()
+    ensures joining { (s t : EdgeList) (f : ListedEdge) → AreApart s → AreApart t → ¬ IsIn f (joins s) → IsWithout s f t → joins t ≡ joins s }
+    ensures chains { (s t : EdgeList) (f : ListedEdge) (x : ℕ) → AreApart s → AreApart t → ¬ IsIn f (joins s) → IsWithout s f t → chain t x ≡ chain s x }
 {}
 
 /// What joins and what the chains are after one more edge `e` of any rank. Where its ends were joined by edges of

@@ -1,4 +1,4 @@
-ghost use Rattle.std.specs.Prelude.{◌≡◌, IfOk};
+ghost use Rattle.std.specs.Prelude.{◌≡◌};
 ghost use Rattle.border_climb.specs.Stands.{Stands};
 ghost use Rattle.tile_plan.specs.Plan.{edges_at, root};
 ghost use Rattle.partition_tree.specs.Ranked.{IsRankedList};
@@ -6,7 +6,7 @@ ghost use Rattle.partition_tree.specs.Ranked.{IsRankedList};
 use crate::graphs::{APART, TRIANGLE, graph_of};
 use border_climb::Part;
 use edge_order::Order;
-use hg_base::{Graph, OpenGate, OutOfMemory};
+use hg_base::{Graph, OpenGate};
 use merge_board::{Board, hierarchy};
 use partition_tree::{Ancestors, Children, Ranked, Tree, tree_pieces, write_tree};
 use std::alloc::{AllocError, Global};
@@ -65,63 +65,63 @@ const PATHS: [Ranked; 5] = [
     },
 ];
 
-fn assert_report(
-    rt: &impl Abort,
-    alloc: Global,
-    n: u32,
-    list: &[Ranked],
-    report: &str,
-) -> Result<(), OutOfMemory>
+// Two nodes of the tree of the two paths a row, and their lowest common ancestor.
+const LOWEST: [(u32, u32, Option<u32>); 8] = [
+    (0, 0, Some(0)),
+    (0, 1, Some(6)),
+    (1, 4, Some(8)),
+    (3, 5, Some(9)),
+    (0, 2, Some(10)),
+    (7, 8, Some(10)),
+    (6, 0, Some(6)),
+    (10, 3, Some(10)),
+];
+
+// The same of an edge beside a vertex that has none.
+const LOWEST_APART: [(u32, u32, Option<u32>); 3] = [(0, 1, Some(3)), (0, 2, None), (2, 3, None)];
+
+fn assert_report(rt: &impl Abort, alloc: Global, n: u32, list: &[Ranked], report: &str)
     requires { IsRankedList n list.now }
 {
-    let tree = Tree::of_list(alloc, n, list)?;
-    let text = write_tree(alloc, &tree)?;
+    let tree = Tree::of_list(alloc, n, list).expect(rt, "ample memory");
+    let text = write_tree(alloc, &tree).expect(rt, "ample memory");
     assert_eq!(rt; text.as_slice(), report.as_bytes());
-    Ok(())
 }
 
 #[test]
-fn reports(rt: HostRuntime) -> Result<(), Fail> {
-    assert_report(
-        &rt,
-        rt.alloc(),
-        3,
-        &PATH,
-        "tree 5 3\n0 4 0\n1 3 0\n2 3 0\n3 4 3\n4 4 5\n",
-    )?;
-    assert_report(&rt, rt.alloc(), 1, &[], "tree 1 1\n0 0 0\n")?;
-    assert_report(
-        &rt,
-        rt.alloc(),
-        3,
-        &TRIANGLE,
-        "tree 5 3\n0 3 0\n1 3 0\n2 4 0\n3 4 1\n4 4 1\n",
-    )?;
-    assert_report(
-        &rt,
-        rt.alloc(),
-        3,
-        &APART,
-        "tree 4 3\n0 3 0\n1 3 0\n2 2 0\n3 3 4\n",
-    )?;
-    assert_report(&rt, rt.alloc(), 2, &[], "tree 2 2\n0 0 0\n1 1 0\n")?;
-    Ok(())
+fn reports(rt: HostRuntime) {
+    let report = "tree 5 3\n0 4 0\n1 3 0\n2 3 0\n3 4 3\n4 4 5\n";
+    assert_report(&rt, rt.alloc(), 3, &PATH, report);
+    assert_report(&rt, rt.alloc(), 1, &[], "tree 1 1\n0 0 0\n");
+    let report = "tree 5 3\n0 3 0\n1 3 0\n2 4 0\n3 4 1\n4 4 1\n";
+    assert_report(&rt, rt.alloc(), 3, &TRIANGLE, report);
+    let report = "tree 4 3\n0 3 0\n1 3 0\n2 2 0\n3 3 4\n";
+    assert_report(&rt, rt.alloc(), 3, &APART, report);
+    assert_report(&rt, rt.alloc(), 2, &[], "tree 2 2\n0 0 0\n1 1 0\n");
+}
+
+fn assert_node(rt: &impl Abort, tree: &Tree, node: u32, parent: u32, altitude: u64) {
+    assert!(rt; node < tree.nodes());
+    assert_eq!(rt; tree.parent(node), parent);
+    assert_eq!(rt; tree.altitude(node), altitude);
+}
+
+fn assert_maker(rt: &impl Abort, tree: &Tree, node: u32, maker: u32) {
+    assert!(rt; tree.leaves() <= node && node < tree.nodes());
+    assert_eq!(rt; tree.maker(node), maker);
 }
 
 #[test]
-fn readers(rt: HostRuntime) -> Result<(), Fail> {
-    let tree = Tree::of_list(rt.alloc(), 3, &APART)?;
-    assert_eq!(rt; (tree.nodes(), tree.leaves(), tree.roots()), (4, 3, 2));
-    for (node, parent, altitude) in [(0, 3, 0), (1, 3, 0), (2, 2, 0), (3, 3, 4)] {
-        assert!(rt; node < tree.nodes());
-        assert_eq!(rt;
-            (tree.parent(node), tree.altitude(node)),
-            (parent, altitude)
-        );
-    }
-    assert!(rt; tree.leaves() <= 3 && 3 < tree.nodes());
-    assert_eq!(rt; tree.maker(3), 0);
-    Ok(())
+fn readers(rt: HostRuntime) {
+    let tree = Tree::of_list(rt.alloc(), 3, &APART).expect(&rt, "ample memory");
+    assert_eq!(rt; tree.nodes(), 4);
+    assert_eq!(rt; tree.leaves(), 3);
+    assert_eq!(rt; tree.roots(), 2);
+    assert_node(&rt, &tree, 0, 3, 0);
+    assert_node(&rt, &tree, 1, 3, 0);
+    assert_node(&rt, &tree, 2, 2, 0);
+    assert_node(&rt, &tree, 3, 3, 4);
+    assert_maker(&rt, &tree, 3, 0);
 }
 
 fn assert_children(rt: &impl Abort, tree: &Tree, listed: &Children, node: u32, children: &[u32])
@@ -138,15 +138,14 @@ fn assert_children(rt: &impl Abort, tree: &Tree, listed: &Children, node: u32, c
 }
 
 #[test]
-fn children(rt: HostRuntime) -> Result<(), Fail> {
-    let tree = Tree::of_list(rt.alloc(), 6, &PATHS)?;
-    let listed = Children::of(rt.alloc(), &tree)?;
+fn children(rt: HostRuntime) {
+    let tree = Tree::of_list(rt.alloc(), 6, &PATHS).expect(&rt, "ample memory");
+    let listed = Children::of(rt.alloc(), &tree).expect(&rt, "ample memory");
     assert_children(&rt, &tree, &listed, 0, &[]);
     assert_children(&rt, &tree, &listed, 6, &[0, 1]);
     assert_children(&rt, &tree, &listed, 8, &[4, 6]);
     assert_children(&rt, &tree, &listed, 9, &[5, 7]);
     assert_children(&rt, &tree, &listed, 10, &[8, 9]);
-    Ok(())
 }
 
 fn assert_lowest(
@@ -160,33 +159,33 @@ fn assert_lowest(
     requires { ancestors.now ≡ tree.now }
 {
     assert!(rt; a < tree.nodes() && b < tree.nodes());
-    assert_eq!(rt; tree.lca(a, b), lowest, "of {a} and {b}");
-    assert_eq!(rt; ancestors.lca(a, b), lowest, "of {a} and {b}");
+    assert_eq!(rt; tree.lca(a, b), lowest);
+    assert_eq!(rt; ancestors.lca(a, b), lowest);
+}
+
+// Two nodes and their lowest common ancestor a row, whichever of the two comes first.
+fn assert_all_lowest(
+    rt: &impl Abort,
+    tree: &Tree,
+    ancestors: &Ancestors,
+    rows: &[(u32, u32, Option<u32>)],
+)
+    requires { ancestors.now ≡ tree.now }
+{
+    for &(a, b, lowest) in rows {
+        assert_lowest(rt, tree, ancestors, a, b, lowest);
+        assert_lowest(rt, tree, ancestors, b, a, lowest);
+    }
 }
 
 #[test]
-fn lowest_common_ancestors(rt: HostRuntime) -> Result<(), Fail> {
-    let tree = Tree::of_list(rt.alloc(), 6, &PATHS)?;
-    let ancestors = Ancestors::of(rt.alloc(), &tree)?;
-    for (a, b, lowest) in [
-        (0, 0, 0),
-        (0, 1, 6),
-        (1, 4, 8),
-        (3, 5, 9),
-        (0, 2, 10),
-        (7, 8, 10),
-        (6, 0, 6),
-        (10, 3, 10),
-    ] {
-        assert_lowest(&rt, &tree, &ancestors, a, b, Some(lowest));
-        assert_lowest(&rt, &tree, &ancestors, b, a, Some(lowest));
-    }
-    let apart = Tree::of_list(rt.alloc(), 3, &APART)?;
-    let apart_ancestors = Ancestors::of(rt.alloc(), &apart)?;
-    assert_lowest(&rt, &apart, &apart_ancestors, 0, 1, Some(3));
-    assert_lowest(&rt, &apart, &apart_ancestors, 0, 2, None);
-    assert_lowest(&rt, &apart, &apart_ancestors, 2, 3, None);
-    Ok(())
+fn lowest_common_ancestors(rt: HostRuntime) {
+    let tree = Tree::of_list(rt.alloc(), 6, &PATHS).expect(&rt, "ample memory");
+    let ancestors = Ancestors::of(rt.alloc(), &tree).expect(&rt, "ample memory");
+    assert_all_lowest(&rt, &tree, &ancestors, &LOWEST);
+    let apart = Tree::of_list(rt.alloc(), 3, &APART).expect(&rt, "ample memory");
+    let apart_ancestors = Ancestors::of(rt.alloc(), &apart).expect(&rt, "ample memory");
+    assert_all_lowest(&rt, &apart, &apart_ancestors, &LOWEST_APART);
 }
 
 #[test]
@@ -195,26 +194,28 @@ fn lists(rt: HostRuntime) -> Result<(), Fail> {
     let altitudes = vec![in rt.alloc(); 0, 0, 7]?;
     let makers = vec![in rt.alloc(); 5]?;
     let tree = Tree::from_lists(rt.alloc(), 2, parents, altitudes, makers)?;
-    let text = write_tree(rt.alloc(), &tree)?;
-    assert_eq!(rt;
-        text.as_slice(),
-        "tree 3 2\n0 2 0\n1 2 0\n2 2 7\n".as_bytes()
-    );
-    let pieces = tree_pieces(&rt, rt.alloc(), &tree)?;
-    assert_eq!(rt; pieces.joined(rt.alloc())?.as_slice(), text.as_slice());
-    assert!(rt; tree.leaves() <= 2 && 2 < tree.nodes());
-    assert_eq!(rt; tree.maker(2), 5);
+    assert_written(&rt, rt.alloc(), &tree, "tree 3 2\n0 2 0\n1 2 0\n2 2 7\n");
+    assert_maker(&rt, &tree, 2, 5);
     Ok(())
 }
 
+// The report of a tree, and its pieces.
+fn assert_written(rt: &(impl Abort + Threads + Sync), alloc: Global, tree: &Tree, report: &str) {
+    let text = write_tree(alloc, tree).expect(rt, "ample memory");
+    assert_eq!(rt; text.as_slice(), report.as_bytes());
+    let pieces = tree_pieces(rt, alloc, tree).expect(rt, "ample memory");
+    let joined = pieces.joined(alloc).expect(rt, "ample memory");
+    assert_eq!(rt; joined.as_slice(), text.as_slice());
+}
+
 // The part of a plan, which took in all edges.
-fn whole_part(rt: &(impl Threads + Sync), alloc: Global, plan: &Plan) -> Result<Part, OutOfMemory>
-    ensures { IfOk result (λ part. Stands part (edges_at plan.now (root plan.now))) }
+fn whole_part(rt: &(impl Abort + Threads + Sync), alloc: Global, plan: &Plan) -> Part
+    ensures { Stands result (edges_at plan.now (root plan.now)) }
 {
-    let (board, mut seats) = Board::set_up(alloc, plan, 2)?;
+    let (board, mut seats) = Board::set_up(alloc, plan, 2).expect(rt, "ample memory");
     hierarchy(rt, &board, &mut seats, plan, &OpenGate);
     let (part, _) = board.close(plan, seats);
-    Ok(part)
+    part
 }
 
 // The trees that are made over a plan of blocks, in one thread and in many.
@@ -223,18 +224,21 @@ fn planned_trees(
     alloc: Global,
     graph: &Graph,
     tile: u32,
-) -> Result<(Tree, Tree), Fail> {
-    let order = Order::of(rt, alloc, graph)?;
+) -> (Tree, Tree) {
+    let order = Order::of(rt, alloc, graph).expect(rt, "ample memory");
     assert!(rt; 1 <= tile);
     let plan = Plan::blocks(alloc, graph, &order, tile).expect(rt, "ample memory");
-    let part = whole_part(rt, alloc, &plan)?;
+    let part = whole_part(rt, alloc, &plan);
     let places = part.count();
     let vertices = plan.n();
     assert!(rt; part.first() == 0);
     assert!(rt; places == vertices);
-    let tree = Tree::of_part(alloc, &order, &plan, &part)?;
-    let threaded = Tree::of_part_in_threads(rt, alloc, &order, &plan, &part)?;
-    Ok((tree, threaded))
+    let tree = Tree::of_part(alloc, &order, &plan, &part).expect(rt, "ample memory");
+    let threaded = Tree::of_part_in_threads(rt, alloc, &order, &plan, &part).expect(
+        rt,
+        "ample memory",
+    );
+    (tree, threaded)
 }
 
 // The report of the tree that is made over a plan of blocks.
@@ -245,44 +249,26 @@ fn assert_planned(
     rows: &[(u32, u32, u32)],
     tile: u32,
     report: &str,
-) -> Result<(), Fail> {
-    let graph = graph_of(rt, alloc, n, rows)?;
-    let (tree, threaded) = planned_trees(rt, alloc, &graph, tile)?;
-    let text = write_tree(alloc, &tree)?;
+) {
+    let graph = graph_of(rt, alloc, n, rows).expect(rt, "ample memory");
+    let (tree, threaded) = planned_trees(rt, alloc, &graph, tile);
+    let text = write_tree(alloc, &tree).expect(rt, "ample memory");
     assert_eq!(rt; text.as_slice(), report.as_bytes());
-    let text = write_tree(alloc, &threaded)?;
+    let text = write_tree(alloc, &threaded).expect(rt, "ample memory");
     assert_eq!(rt; text.as_slice(), report.as_bytes());
-    Ok(())
 }
 
 #[test]
-fn over_plans(rt: HostRuntime) -> Result<(), Fail> {
+fn over_plans(rt: HostRuntime) {
     // In the second tile the edge of weight 6 joins, until the border is merged.
-    assert_planned(
-        &rt,
-        rt.alloc(),
-        4,
-        &[(0, 1, 5), (2, 3, 6), (1, 2, 1), (0, 3, 2)],
-        2,
-        "tree 7 4\n0 5 0\n1 4 0\n2 4 0\n3 5 0\n4 6 1\n5 6 2\n6 6 5\n",
-    )?;
-    assert_planned(
-        &rt,
-        rt.alloc(),
-        3,
-        &[(0, 1, 5), (1, 2, 3)],
-        64,
-        "tree 5 3\n0 4 0\n1 3 0\n2 3 0\n3 4 3\n4 4 5\n",
-    )?;
-    assert_planned(
-        &rt,
-        rt.alloc(),
-        3,
-        &[(0, 1, 4)],
-        64,
-        "tree 4 3\n0 3 0\n1 3 0\n2 2 0\n3 3 4\n",
-    )?;
-    Ok(())
+    let rows = &[(0, 1, 5), (2, 3, 6), (1, 2, 1), (0, 3, 2)];
+    let report = "tree 7 4\n0 5 0\n1 4 0\n2 4 0\n3 5 0\n4 6 1\n5 6 2\n6 6 5\n";
+    assert_planned(&rt, rt.alloc(), 4, rows, 2, report);
+    let rows = &[(0, 1, 5), (1, 2, 3)];
+    let report = "tree 5 3\n0 4 0\n1 3 0\n2 3 0\n3 4 3\n4 4 5\n";
+    assert_planned(&rt, rt.alloc(), 3, rows, 64, report);
+    let report = "tree 4 3\n0 3 0\n1 3 0\n2 2 0\n3 3 4\n";
+    assert_planned(&rt, rt.alloc(), 3, &[(0, 1, 4)], 64, report);
 }
 
 // Rows of vertices in twelve pieces, with edges to the next one and across: so many that threads are taken.
@@ -300,14 +286,14 @@ fn long_rows(alloc: Global) -> Result<Vec<(u32, u32, u32)>, AllocError> {
 }
 
 #[test]
-fn one_tree_in_many_threads(rt: HostRuntime) -> Result<(), Fail> {
-    let rows = long_rows(rt.alloc())?;
-    let graph = graph_of(&rt, rt.alloc(), 12_000, &rows)?;
-    let (tree, threaded) = planned_trees(&rt, rt.alloc(), &graph, 6400)?;
+fn one_tree_in_many_threads(rt: HostRuntime) {
+    let rows = long_rows(rt.alloc()).expect(&rt, "ample memory");
+    let graph = graph_of(&rt, rt.alloc(), 12_000, &rows).expect(&rt, "ample memory");
+    let (tree, threaded) = planned_trees(&rt, rt.alloc(), &graph, 6400);
     // Twelve components of 1,000 vertices have 999 inner nodes each.
-    assert_eq!(rt; (threaded.nodes(), threaded.roots()), (23_988, 12));
-    let text = write_tree(rt.alloc(), &tree)?;
-    let threaded_text = write_tree(rt.alloc(), &threaded)?;
+    assert_eq!(rt; threaded.nodes(), 23_988);
+    assert_eq!(rt; threaded.roots(), 12);
+    let text = write_tree(rt.alloc(), &tree).expect(&rt, "ample memory");
+    let threaded_text = write_tree(rt.alloc(), &threaded).expect(&rt, "ample memory");
     assert_eq!(rt; threaded_text.as_slice(), text.as_slice());
-    Ok(())
 }

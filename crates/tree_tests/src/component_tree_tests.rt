@@ -13,6 +13,7 @@ use partition_tree::{Ranked, Tree};
 use std::alloc::Global;
 use std::process::Abort;
 use std::test::Fail;
+use std::thread::Threads;
 
 // The edges of a picture of 2 by 2 pixels, two ends and a weight each.
 const SQUARE: [(u32, u32, u32); 4] = [(0, 1, 3), (0, 2, 3), (1, 3, 6), (2, 3, 6)];
@@ -44,6 +45,21 @@ fn components(
     Ok(component_tree(alloc, &values, side, &weighed, &tree)?)
 }
 
+// The report of a component tree, and its pieces.
+fn assert_report(
+    rt: &(impl Abort + Threads + Sync),
+    alloc: Global,
+    tree: &ComponentTree,
+    side: Side,
+    report: &str,
+) {
+    let text = write_components(alloc, tree, side).expect(rt, "ample memory");
+    assert_eq!(rt; text.as_slice(), report.as_bytes());
+    let pieces = components_pieces(rt, alloc, tree, side).expect(rt, "ample memory");
+    let joined = pieces.joined(alloc).expect(rt, "ample memory");
+    assert_eq!(rt; joined.as_slice(), report.as_bytes());
+}
+
 #[test]
 fn min_tree(rt: HostRuntime) -> Result<(), Fail> {
     let list = [
@@ -72,12 +88,9 @@ fn min_tree(rt: HostRuntime) -> Result<(), Fail> {
             altitude: 9,
         },
     ];
-    let tree = components(&rt, rt.alloc(), Side::Min, &SQUARE_SAMPLES, &SQUARE, &list)?;
-    let text = write_components(rt.alloc(), &tree, Side::Min)?;
     let report = "mintree 7 4\n0 4 0\n1 5 3\n2 5 3\n3 6 9\n4 5 0\n5 6 3\n6 6 9\n";
-    assert_eq!(rt; text.as_slice(), report.as_bytes());
-    let pieces = components_pieces(&rt, rt.alloc(), &tree, Side::Min)?;
-    assert_eq!(rt; pieces.joined(rt.alloc())?.as_slice(), report.as_bytes());
+    let tree = components(&rt, rt.alloc(), Side::Min, &SQUARE_SAMPLES, &SQUARE, &list)?;
+    assert_report(&rt, rt.alloc(), &tree, Side::Min, report);
     assert_eq!(rt; tree.nodes(), 7);
     assert_eq!(rt; tree.leaves(), 4);
     assert_eq!(rt; tree.parent(4), 5);
@@ -113,10 +126,9 @@ fn max_tree(rt: HostRuntime) -> Result<(), Fail> {
             altitude: 4_294_967_295,
         },
     ];
-    let tree = components(&rt, rt.alloc(), Side::Max, &SQUARE_SAMPLES, &SQUARE, &list)?;
-    let text = write_components(rt.alloc(), &tree, Side::Max)?;
     let report = "maxtree 7 4\n0 6 0\n1 5 3\n2 5 3\n3 4 9\n4 5 9\n5 6 3\n6 6 0\n";
-    assert_eq!(rt; text.as_slice(), report.as_bytes());
+    let tree = components(&rt, rt.alloc(), Side::Max, &SQUARE_SAMPLES, &SQUARE, &list)?;
+    assert_report(&rt, rt.alloc(), &tree, Side::Max, report);
     Ok(())
 }
 
@@ -137,9 +149,8 @@ fn nodes_of_one_vertex(rt: HostRuntime) -> Result<(), Fail> {
             altitude: 5,
         },
     ];
-    let tree = components(&rt, rt.alloc(), Side::Min, &ROW_SAMPLES, &ROW, &list)?;
-    let text = write_components(rt.alloc(), &tree, Side::Min)?;
     let report = "mintree 6 3\n0 3 2\n1 5 5\n2 4 2\n3 5 2\n4 5 2\n5 5 5\n";
-    assert_eq!(rt; text.as_slice(), report.as_bytes());
+    let tree = components(&rt, rt.alloc(), Side::Min, &ROW_SAMPLES, &ROW, &list)?;
+    assert_report(&rt, rt.alloc(), &tree, Side::Min, report);
     Ok(())
 }

@@ -10,7 +10,6 @@ use forest_witness::witness;
 use partition_tree::{Ranked, Tree};
 use std::alloc::Global;
 use std::process::Abort;
-use std::test::Fail;
 use std::thread::Threads;
 use watershed_cut::{Minima, watershed};
 
@@ -67,35 +66,32 @@ const RANKED_PLATEAU: [Ranked; 3] = [
     },
 ];
 
-// The weight of the forest of the graph with these edges, of which the list is the same in order of rank.
-fn forest_weight(
+// The forest of the graph with these edges, of which the list is the same in order of rank, has this weight.
+fn assert_weight(
     rt: &(impl Abort + Threads + Sync),
     alloc: Global,
     n: u32,
     rows: &[(u32, u32, u32)],
     list: &[Ranked],
-) -> Result<u64, Fail>
+    weight: u64,
+)
     requires list { IsRankedList n list.now }
     requires ranked { edges_of list.now ≡ ranked (with_unit_areas n (map edge rows.now)) }
 {
-    let graph = graph_of(rt, alloc, n, rows)?;
-    let order = Order::of(rt, alloc, &graph)?;
-    let tree = Tree::of_list(alloc, n, list)?;
-    let minima = Minima::of(alloc, &graph, &order, &tree)?;
-    let watershed = watershed(alloc, &graph, &order, &tree, &minima)?;
-    Ok(witness(&graph, &minima, &watershed))
+    let graph = graph_of(rt, alloc, n, rows).expect(rt, "ample memory");
+    let order = Order::of(rt, alloc, &graph).expect(rt, "ample memory");
+    let tree = Tree::of_list(alloc, n, list).expect(rt, "ample memory");
+    let minima = Minima::of(alloc, &graph, &order, &tree).expect(rt, "ample memory");
+    let watershed = watershed(alloc, &graph, &order, &tree, &minima).expect(rt, "ample memory");
+    assert_eq!(rt; witness(&graph, &minima, &watershed), weight);
 }
 
 #[test]
-fn weights(rt: HostRuntime) -> Result<(), Fail> {
+fn weights(rt: HostRuntime) {
     let alloc = rt.alloc();
-    let weight = forest_weight(&rt, alloc, 4, &PATH_ROWS, &PATH)?;
-    assert_eq!(rt; weight, 0);
-    let weight = forest_weight(&rt, alloc, 5, &BETWEEN_MINIMA, &RANKED_BETWEEN_MINIMA)?;
-    assert_eq!(rt; weight, 3);
-    let weight = forest_weight(&rt, alloc, 4, &PLATEAU, &RANKED_PLATEAU)?;
-    assert_eq!(rt; weight, 4);
-    assert_eq!(rt; forest_weight(&rt, alloc, 1, &[], &[])?, 0);
-    assert_eq!(rt; forest_weight(&rt, alloc, 3, &APART_ROWS, &APART)?, 0);
-    Ok(())
+    assert_weight(&rt, alloc, 4, &PATH_ROWS, &PATH, 0);
+    assert_weight(&rt, alloc, 5, &BETWEEN_MINIMA, &RANKED_BETWEEN_MINIMA, 3);
+    assert_weight(&rt, alloc, 4, &PLATEAU, &RANKED_PLATEAU, 4);
+    assert_weight(&rt, alloc, 1, &[], &[], 0);
+    assert_weight(&rt, alloc, 3, &APART_ROWS, &APART, 0);
 }

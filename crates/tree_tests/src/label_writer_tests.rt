@@ -2,7 +2,7 @@ use hg_base::Labels;
 use label_writer::{LabelFault, labels_pieces, write_labels, write_pgm};
 use std::alloc::{AllocError, Global};
 use std::process::Abort;
-use std::test::Fail;
+use std::thread::Threads;
 
 // These labels, each of 1 to the count.
 fn labels_of(
@@ -42,61 +42,85 @@ fn picture(
     write_pgm(alloc, labels, width, height)
 }
 
-#[test]
-fn texts(rt: HostRuntime) -> Result<(), Fail> {
-    let table: [(&[u32], u32, &str); 3] = [
-        (&[1, 1, 2, 3], 3, "labels 4 3\n0 1\n1 1\n2 2\n3 3\n"),
-        (&[1, 1, 2, 2], 2, "labels 4 2\n0 1\n1 1\n2 2\n3 2\n"),
-        (&[1, 1, 1, 1], 1, "labels 4 1\n0 1\n1 1\n2 1\n3 1\n"),
-    ];
-    for (rows, count, report) in table {
-        let labels = labels_of(&rt, rt.alloc(), rows, count)?;
-        let text = write_labels(rt.alloc(), &labels)?;
-        assert_eq!(&rt; text.as_slice(), report.as_bytes());
-        let pieces = labels_pieces(&rt, rt.alloc(), &labels)?;
-        assert_eq!(&rt; pieces.joined(rt.alloc())?.as_slice(), report.as_bytes());
-    }
-    Ok(())
+fn assert_text(
+    rt: &(impl Abort + Threads + Sync),
+    alloc: Global,
+    rows: &[u32],
+    count: u32,
+    report: &str,
+) {
+    let labels = labels_of(rt, alloc, rows, count).expect(rt, "ample memory");
+    let text = write_labels(alloc, &labels).expect(rt, "ample memory");
+    assert_eq!(rt; text.as_slice(), report.as_bytes());
+    let pieces = labels_pieces(rt, alloc, &labels).expect(rt, "ample memory");
+    let joined = pieces.joined(alloc).expect(rt, "ample memory");
+    assert_eq!(rt; joined.as_slice(), report.as_bytes());
 }
 
 #[test]
-fn pictures(rt: HostRuntime) -> Result<(), Fail> {
-    let labels = labels_of(&rt, rt.alloc(), &[1, 2, 3, 4], 4)?;
-    let bytes = picture(&rt, rt.alloc(), &labels, 2, 2)?;
-    assert_eq!(&rt;
-        bytes.as_slice(),
-        b"P5\n2 2\n4\n\x01\x02\x03\x04".as_slice()
+fn texts(rt: HostRuntime) {
+    let report = "labels 4 3\n0 1\n1 1\n2 2\n3 3\n";
+    assert_text(&rt, rt.alloc(), &[1, 1, 2, 3], 3, report);
+    let report = "labels 4 2\n0 1\n1 1\n2 2\n3 2\n";
+    assert_text(&rt, rt.alloc(), &[1, 1, 2, 2], 2, report);
+    let report = "labels 4 1\n0 1\n1 1\n2 1\n3 1\n";
+    assert_text(&rt, rt.alloc(), &[1, 1, 1, 1], 1, report);
+}
+
+// How a picture of numbered labels begins and ends, and how many bytes it has.
+fn assert_picture(
+    rt: &impl Abort,
+    alloc: Global,
+    width: u32,
+    height: u32,
+    count: u32,
+    front: &[u8],
+    back: &[u8],
+    length: usize,
+) {
+    let labels = numbered(rt, alloc, count).expect(rt, "ample memory");
+    let bytes = picture(rt, alloc, &labels, width, height).expect(rt, "few labels");
+    assert!(rt; bytes.starts_with(front), "{count}");
+    assert!(rt; bytes.ends_with(back), "{count}");
+    assert_eq!(rt; bytes.len(), length);
+}
+
+#[test]
+fn pictures(rt: HostRuntime) {
+    let all = b"P5\n2 2\n4\n\x01\x02\x03\x04";
+    assert_picture(&rt, rt.alloc(), 2, 2, 4, all, b"\x03\x04", 13);
+    let front = b"P5\n255 1\n255\n\x01\x02";
+    assert_picture(&rt, rt.alloc(), 255, 1, 255, front, b"\xfe\xff", 268);
+    let front = b"P5\n16 16\n256\n\x00\x01\x00\x02";
+    assert_picture(
+        &rt,
+        rt.alloc(),
+        16,
+        16,
+        256,
+        front,
+        b"\x00\xff\x01\x00",
+        525,
     );
-    let table: [(u32, u32, u32, &[u8], &[u8], usize); 3] = [
-        (255, 255, 1, b"P5\n255 1\n255\n\x01\x02", b"\xfe\xff", 268),
-        (
-            256,
-            16,
-            16,
-            b"P5\n16 16\n256\n\x00\x01\x00\x02",
-            b"\x00\xff\x01\x00",
-            525,
-        ),
-        (
-            65_535,
-            65_535,
-            1,
-            b"P5\n65535 1\n65535\n\x00\x01\x00\x02",
-            b"\xff\xfe\xff\xff",
-            131_087,
-        ),
-    ];
-    for (count, width, height, front, back, length) in table {
-        let labels = numbered(&rt, rt.alloc(), count)?;
-        let bytes = picture(&rt, rt.alloc(), &labels, width, height)?;
-        assert!(&rt; bytes.starts_with(front), "{count}");
-        assert!(&rt; bytes.ends_with(back), "{count}");
-        assert_eq!(&rt; bytes.len(), length);
-    }
-    let labels = numbered(&rt, rt.alloc(), 65_536)?;
-    match picture(&rt, rt.alloc(), &labels, 65_536, 1) {
-        Ok(_) => panic!(&rt; "65,536 labels were accepted"),
-        Err(fault) => assert_eq!(&rt; fault, LabelFault::TooManyLabels(65_536)),
-    }
-    Ok(())
+    let front = b"P5\n65535 1\n65535\n\x00\x01\x00\x02";
+    assert_picture(
+        &rt,
+        rt.alloc(),
+        65_535,
+        1,
+        65_535,
+        front,
+        b"\xff\xfe\xff\xff",
+        131_087,
+    );
+}
+
+#[test]
+fn a_picture_of_too_many_labels(rt: HostRuntime) {
+    let labels = numbered(&rt, rt.alloc(), 65_536).expect(&rt, "ample memory");
+    let fault = picture(&rt, rt.alloc(), &labels, 65_536, 1).expect_err(
+        &rt,
+        "65,536 labels were accepted",
+    );
+    assert_eq!(rt; fault, LabelFault::TooManyLabels(65_536));
 }

@@ -6,7 +6,6 @@ use graph_hierarchy::{GraphHierarchy, Tiling};
 use hg_base::OpenGate;
 use std::alloc::Global;
 use std::process::Abort;
-use std::test::Fail;
 use std::thread::Threads;
 
 // The ends and weights of the edges of a cycle of four vertices.
@@ -19,12 +18,12 @@ fn assert_tree(
     tiling: Tiling,
     workers: u32,
     tiles: u32,
-) -> Result<(), Fail>
+)
     requires tiling { AreTiles tiling 4 }
     requires some { 1 ≤ workers }
     requires few { workers ≤ 64 }
 {
-    let graph = graph_of(rt, alloc, 4, &CYCLE)?;
+    let graph = graph_of(rt, alloc, 4, &CYCLE).expect(rt, "ample memory");
     let made = GraphHierarchy::of(rt, alloc, &graph, tiling, workers, &OpenGate).expect(
         rt,
         "ample memory",
@@ -34,17 +33,16 @@ fn assert_tree(
     assert_eq!(rt; made.order.len(), 4);
     assert_eq!(rt; made.receipt.tiles(), tiles);
     assert_eq!(rt; made.receipt.workers(), workers);
-    Ok(())
 }
 
 #[test]
-fn in_any_tiles(rt: HostRuntime) -> Result<(), Fail> {
-    assert_tree(&rt, rt.alloc(), Tiling::Blocks(1), 3, 4)?;
-    assert_tree(&rt, rt.alloc(), Tiling::Blocks(64), 1, 1)?;
+fn in_any_tiles(rt: HostRuntime) {
+    assert_tree(&rt, rt.alloc(), Tiling::Blocks(1), 3, 4);
+    assert_tree(&rt, rt.alloc(), Tiling::Blocks(64), 1, 1);
     let rows = Tiling::Squares {
         width: 1,
         height: 4,
         side: 2,
     };
-    assert_tree(&rt, rt.alloc(), rows, 2, 2)
+    assert_tree(&rt, rt.alloc(), rows, 2, 2);
 }

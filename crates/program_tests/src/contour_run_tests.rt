@@ -47,9 +47,9 @@ fn runs_failing(
         &mut err,
         &OpenGate,
     );
-    assert_eq!(rt; status.code(), want.0);
-    assert_eq!(rt; out.taken(), want.1);
-    assert_eq!(rt; err.taken(), want.2.as_bytes());
+    assert!(rt; status.code() == want.0);
+    assert!(rt; out.taken() == want.1);
+    assert!(rt; err.taken() == want.2.as_bytes());
     Ok(())
 }
 
@@ -64,103 +64,145 @@ fn runs(
     runs_failing(rt, alloc, words, input, (0, 0), want)
 }
 
+// What each kind draws of the six pixels.
+static OF_SIX: [(&str, &[u8]); 4] = [
+    (
+        "--kind=altitude",
+        b"P5\n5 3\n5\n\x00\x05\x00\x01\x00\x01\x05\x02\x02\x00\x00\x05\x00\x02\x00",
+    ),
+    (
+        "--kind=area",
+        b"P5\n5 3\n2\n\x00\x02\x00\x00\x00\x00\x02\x00\x00\x00\x00\x02\x00\x00\x00",
+    ),
+    (
+        "--kind=volume",
+        b"P5\n5 3\n8\n\x00\x08\x00\x00\x00\x00\x08\x00\x00\x00\x00\x08\x00\x00\x00",
+    ),
+    (
+        "--kind=dynamics",
+        b"P5\n5 3\n4\n\x00\x04\x00\x00\x00\x00\x04\x00\x00\x00\x00\x04\x00\x00\x00",
+    ),
+];
+
 #[test]
 fn three_by_two(rt: HostRuntime) -> Result<(), Fail> {
-    let kinds: [(&str, &[u8]); 4] = [
-        (
-            "--kind=altitude",
-            b"P5\n5 3\n5\n\x00\x05\x00\x01\x00\x01\x05\x02\x02\x00\x00\x05\x00\x02\x00",
-        ),
-        (
-            "--kind=area",
-            b"P5\n5 3\n2\n\x00\x02\x00\x00\x00\x00\x02\x00\x00\x00\x00\x02\x00\x00\x00",
-        ),
-        (
-            "--kind=volume",
-            b"P5\n5 3\n8\n\x00\x08\x00\x00\x00\x00\x08\x00\x00\x00\x00\x08\x00\x00\x00",
-        ),
-        (
-            "--kind=dynamics",
-            b"P5\n5 3\n4\n\x00\x04\x00\x00\x00\x00\x04\x00\x00\x00\x00\x04\x00\x00\x00",
-        ),
-    ];
-    for (kind, contours) in kinds {
-        for tile in ["--tile=1", "--tile=2", "--tile=64"] {
-            runs(&rt, rt.alloc(), &[kind, tile], SIX, (0, contours, ""))?;
-        }
+    for (kind, contours) in OF_SIX {
+        let want = (0, contours, "");
+        runs(&rt, rt.alloc(), &[kind, "--tile=1"], SIX, want)?;
+        runs(&rt, rt.alloc(), &[kind, "--tile=2"], SIX, want)?;
+        runs(&rt, rt.alloc(), &[kind, "--tile=64"], SIX, want)?;
     }
     Ok(())
 }
 
-// One row and one column: the minima are the first two pixels and the last two.
-#[test]
-fn one_line(rt: HostRuntime) -> Result<(), Fail> {
-    let row = b"P5\n4 1\n9\n\x00\x01\x05\x07".as_slice();
-    let column = b"P5\n1 4\n9\n\x00\x01\x05\x07".as_slice();
-    let kinds: [(&str, &[u8], &[u8]); 4] = [
-        (
-            "altitude",
-            b"P5\n7 1\n4\n\x00\x01\x00\x04\x00\x02\x00",
-            b"P5\n1 7\n4\n\x00\x01\x00\x04\x00\x02\x00",
-        ),
-        (
-            "area",
-            b"P5\n7 1\n2\n\x00\x00\x00\x02\x00\x00\x00",
-            b"P5\n1 7\n2\n\x00\x00\x00\x02\x00\x00\x00",
-        ),
-        (
-            "volume",
-            b"P5\n7 1\n4\n\x00\x00\x00\x04\x00\x00\x00",
-            b"P5\n1 7\n4\n\x00\x00\x00\x04\x00\x00\x00",
-        ),
-        (
-            "dynamics",
-            b"P5\n7 1\n2\n\x00\x00\x00\x02\x00\x00\x00",
-            b"P5\n1 7\n2\n\x00\x00\x00\x02\x00\x00\x00",
-        ),
-    ];
-    for (kind, of_row, of_column) in kinds {
-        let words = ["--kind", kind];
-        runs(&rt, rt.alloc(), &words, row, (0, of_row, ""))?;
-        runs(&rt, rt.alloc(), &words, column, (0, of_column, ""))?;
-    }
-    Ok(())
-}
+// One row and one column of four pixels: the minima are the first two pixels and the last two.
+const ROW: &[u8] = b"P5\n4 1\n9\n\x00\x01\x05\x07";
+
+const COLUMN: &[u8] = b"P5\n1 4\n9\n\x00\x01\x05\x07";
 
 // Two by two: the corner has the greatest of the four. There is one minimum, so every hierarchical watershed is flat, and so is
 // that of one pixel.
+const FOUR: &[u8] = b"P5\n2 2\n9\n\x00\x01\x07\x03";
+
+const FLAT: &[u8] = b"P5\n3 3\n1\n\x00\x00\x00\x00\x00\x00\x00\x00\x00";
+
+const ONE: &[u8] = b"P5\n1 1\n9\n\x05";
+
+const DOT: &[u8] = b"P5\n1 1\n1\n\x00";
+
+// Words, a picture and its contours.
+static DRAWN: [(&[&str], &[u8], &[u8]); 14] = [
+    (
+        &["--kind", "altitude"],
+        ROW,
+        b"P5\n7 1\n4\n\x00\x01\x00\x04\x00\x02\x00",
+    ),
+    (
+        &["--kind", "altitude"],
+        COLUMN,
+        b"P5\n1 7\n4\n\x00\x01\x00\x04\x00\x02\x00",
+    ),
+    (
+        &["--kind", "area"],
+        ROW,
+        b"P5\n7 1\n2\n\x00\x00\x00\x02\x00\x00\x00",
+    ),
+    (
+        &["--kind", "area"],
+        COLUMN,
+        b"P5\n1 7\n2\n\x00\x00\x00\x02\x00\x00\x00",
+    ),
+    (
+        &["--kind", "volume"],
+        ROW,
+        b"P5\n7 1\n4\n\x00\x00\x00\x04\x00\x00\x00",
+    ),
+    (
+        &["--kind", "volume"],
+        COLUMN,
+        b"P5\n1 7\n4\n\x00\x00\x00\x04\x00\x00\x00",
+    ),
+    (
+        &["--kind", "dynamics"],
+        ROW,
+        b"P5\n7 1\n2\n\x00\x00\x00\x02\x00\x00\x00",
+    ),
+    (
+        &["--kind", "dynamics"],
+        COLUMN,
+        b"P5\n1 7\n2\n\x00\x00\x00\x02\x00\x00\x00",
+    ),
+    (
+        &["--kind=altitude"],
+        FOUR,
+        b"P5\n3 3\n4\n\x00\x01\x00\x04\x04\x02\x00\x04\x00",
+    ),
+    (&[], FOUR, FLAT),
+    (&["--kind=area"], FOUR, FLAT),
+    (&["--kind=volume"], FOUR, FLAT),
+    (&[], ONE, DOT),
+    (&["--kind=altitude"], ONE, DOT),
+];
+
 #[test]
-fn square(rt: HostRuntime) -> Result<(), Fail> {
-    let alloc = rt.alloc();
-    let four = b"P5\n2 2\n9\n\x00\x01\x07\x03".as_slice();
-    let own = b"P5\n3 3\n4\n\x00\x01\x00\x04\x04\x02\x00\x04\x00".as_slice();
-    runs(&rt, alloc, &["--kind=altitude"], four, (0, own, ""))?;
-    let flat = b"P5\n3 3\n1\n\x00\x00\x00\x00\x00\x00\x00\x00\x00".as_slice();
-    let kinds: [&[&str]; 3] = [&[], &["--kind=area"], &["--kind=volume"]];
-    for words in kinds {
-        runs(&rt, alloc, words, four, (0, flat, ""))?;
+fn drawn(rt: HostRuntime) -> Result<(), Fail> {
+    for (words, picture, contours) in DRAWN {
+        runs(&rt, rt.alloc(), words, picture, (0, contours, ""))?;
     }
-    let one = b"P5\n1 1\n9\n\x05".as_slice();
-    let dot = b"P5\n1 1\n1\n\x00".as_slice();
-    runs(&rt, alloc, &[], one, (0, dot, ""))?;
-    runs(&rt, alloc, &["--kind=altitude"], one, (0, dot, ""))
+    Ok(())
 }
+
+// Words, the input, the read and the write that fail, the code, what is written, and the fault line.
+static REFUSED: [(&[&str], &[u8], (u64, u64), (u8, &[u8], &str)); 7] = [
+    (
+        &[],
+        b"graph 2 1\n0 1 7\n",
+        (0, 0),
+        (3, b"", "higra: input 11 NotAPicture at 0 value 0\n"),
+    ),
+    (&["--level=0"], SIX, (0, 0), (2, b"", "higra: usage\n")),
+    (&["cut"], SIX, (0, 0), (2, b"", "higra: usage\n")),
+    // The six pixels without the last.
+    (
+        &[],
+        b"P5\n3 2\n9\n\x00\x05\x06\x01\x08",
+        (0, 0),
+        (3, b"", "higra: input 4 Truncated at 14 value 0\n"),
+    ),
+    (
+        &["--make=257", "--tile=1"],
+        b"",
+        (0, 0),
+        (3, b"", "higra: input 12 TooManyTiles at 0 value 66049\n"),
+    ),
+    (&[], SIX, (2, 0), (4, b"", "higra: read failed\n")),
+    (&[], SIX, (0, 2), (5, b"P5\n5", "higra: write failed\n")),
+];
 
 #[test]
 fn refused(rt: HostRuntime) -> Result<(), Fail> {
-    let alloc = rt.alloc();
-    let list = b"graph 2 1\n0 1 7\n".as_slice();
-    let line = "higra: input 11 NotAPicture at 0 value 0\n";
-    runs(&rt, alloc, &[], list, (3, b"", line))?;
-    runs(&rt, alloc, &["--level=0"], SIX, (2, b"", "higra: usage\n"))?;
-    runs(&rt, alloc, &["cut"], SIX, (2, b"", "higra: usage\n"))?;
-    let line = "higra: input 4 Truncated at 14 value 0\n";
-    runs(&rt, alloc, &[], &SIX[..14], (3, b"", line))?;
-    let line = "higra: input 12 TooManyTiles at 0 value 66049\n";
-    let words = ["--make=257", "--tile=1"];
-    runs(&rt, alloc, &words, b"", (3, b"", line))?;
-    let line = "higra: read failed\n";
-    runs_failing(&rt, alloc, &[], SIX, (2, 0), (4, b"", line))?;
-    let line = "higra: write failed\n";
-    runs_failing(&rt, alloc, &[], SIX, (0, 2), (5, b"P5\n5", line))
+    for (words, input, fails, want) in REFUSED {
+        runs_failing(&rt, rt.alloc(), words, input, fails, want)?;
+    }
+    Ok(())
 }

@@ -5,7 +5,7 @@ ghost use Rattle.border_climb.specs.Parts.{CanTake, IsLot};
 
 use crate::chains::chain;
 use border_climb::{Given, Part, build_tile, join};
-use hg_base::{OutOfMemory, PlacedEdge, Room};
+use hg_base::{PlacedEdge, Room};
 use std::alloc::{AllocError, Global};
 use std::process::Abort;
 use std::test::Fail;
@@ -35,42 +35,35 @@ const LINKS: [PlacedEdge; 4] = [
 ];
 
 // The number of components, and the ranks of the chain of each place, for the edges of the ranks whose bits are set.
-fn expected(set: usize) -> (u32, [&'static [u32]; 4]) {
-    let sets: [(u32, [&'static [u32]; 4]); 16] = [
-        (4, [&[], &[], &[], &[]]),
-        (3, [&[], &[0], &[0], &[]]),
-        (3, [&[1], &[], &[], &[1]]),
-        (2, [&[1], &[0], &[0], &[1]]),
-        (3, [&[2], &[2], &[], &[]]),
-        (2, [&[2], &[0, 2], &[0, 2], &[]]),
-        (2, [&[1, 2], &[2], &[], &[1, 2]]),
-        (1, [&[1, 2], &[0, 2], &[0, 2], &[1, 2]]),
-        (3, [&[], &[], &[3], &[3]]),
-        (2, [&[], &[0, 3], &[0, 3], &[3]]),
-        (2, [&[1, 3], &[], &[3], &[1, 3]]),
-        (1, [&[1, 3], &[0, 3], &[0, 3], &[1, 3]]),
-        (2, [&[2], &[2], &[3], &[3]]),
-        (1, [&[2, 3], &[0, 2, 3], &[0, 2, 3], &[3]]),
-        (1, [&[1, 2, 3], &[2, 3], &[3], &[1, 2, 3]]),
-        (1, [&[1, 2], &[0, 2], &[0, 2], &[1, 2]]),
-    ];
-    sets[set % 16]
-}
+static SETS: [(u32, [&[u32]; 4]); 16] = [
+    (4, [&[], &[], &[], &[]]),
+    (3, [&[], &[0], &[0], &[]]),
+    (3, [&[1], &[], &[], &[1]]),
+    (2, [&[1], &[0], &[0], &[1]]),
+    (3, [&[2], &[2], &[], &[]]),
+    (2, [&[2], &[0, 2], &[0, 2], &[]]),
+    (2, [&[1, 2], &[2], &[], &[1, 2]]),
+    (1, [&[1, 2], &[0, 2], &[0, 2], &[1, 2]]),
+    (3, [&[], &[], &[3], &[3]]),
+    (2, [&[], &[0, 3], &[0, 3], &[3]]),
+    (2, [&[1, 3], &[], &[3], &[1, 3]]),
+    (1, [&[1, 3], &[0, 3], &[0, 3], &[1, 3]]),
+    (2, [&[2], &[2], &[3], &[3]]),
+    (1, [&[2, 3], &[0, 2, 3], &[0, 2, 3], &[3]]),
+    (1, [&[1, 2, 3], &[2, 3], &[3], &[1, 2, 3]]),
+    (1, [&[1, 2], &[0, 2], &[0, 2], &[1, 2]]),
+];
 
 // The part is that of the edges of the ranks whose bits are set.
 fn assert_set(rt: &impl Abort, alloc: Global, part: &Part, set: usize) -> Result<(), AllocError> {
-    let (roots, chains) = expected(set);
-    assert_eq!(rt;
-        (part.roots(), part.given()),
-        (roots, u64::from(set.count_ones()))
-    );
+    let (roots, chains) = &SETS[set % 16];
+    assert!(rt; part.roots() == *roots);
+    assert!(rt; part.given() == u64::from(set.count_ones()));
     assert!(rt; part.first() == 0);
     assert!(rt; part.count() == 4);
     for place in 0..4 {
-        assert_eq!(rt;
-            chain(alloc, part, place)?.as_slice(),
-            chains[place as usize]
-        );
+        let ranks = chain(alloc, part, place)?;
+        assert!(rt; ranks.as_slice() == chains[place as usize]);
     }
     Ok(())
 }
@@ -115,54 +108,51 @@ fn links(i: u32, j: u32, k: u32, l: u32) -> [PlacedEdge; 4]
 }
 
 // Whichever order the edges come in, the first three join, and the last one answers so.
-fn assert_order(
-    rt: &impl Abort,
-    alloc: Global,
-    ranks: [u32; 4],
-    last: Given,
-) -> Result<(), OutOfMemory> {
+fn assert_order(rt: &impl Abort, alloc: Global, ranks: [u32; 4], last: Given) -> Result<(), Fail> {
     let [i, j, k, l] = ranks;
     assert!(rt; i < 4 && j < 4 && k < 4 && l < 4);
     assert!(rt; i != j && i != k && i != l);
     assert!(rt; j != k && j != l && k != l);
     let edges = links(i, j, k, l);
     let mut part = Part::whole(alloc, 4)?;
-    let answers = give_each(rt, alloc, &mut part, &edges).map_err(|_| OutOfMemory)?;
+    let answers = give_each(rt, alloc, &mut part, &edges)?;
     let expected = [Given::Joined, Given::Joined, Given::Joined, last];
-    assert_eq!(rt; answers.as_slice(), expected.as_slice());
-    assert_eq!(rt; part.lots(), [].as_slice());
+    assert!(rt; answers.as_slice() == expected.as_slice());
+    assert!(rt; part.lots().is_empty());
     Ok(())
 }
 
+// Each order in which the edges can come, and what the last of them is answered.
+static ORDERS: [([u32; 4], Given); 24] = [
+    ([0, 1, 2, 3], Given::Redundant),
+    ([0, 1, 3, 2], Given::Replaced(3)),
+    ([0, 2, 1, 3], Given::Redundant),
+    ([0, 2, 3, 1], Given::Replaced(3)),
+    ([0, 3, 1, 2], Given::Replaced(3)),
+    ([0, 3, 2, 1], Given::Replaced(3)),
+    ([1, 0, 2, 3], Given::Redundant),
+    ([1, 0, 3, 2], Given::Replaced(3)),
+    ([1, 2, 0, 3], Given::Redundant),
+    ([1, 2, 3, 0], Given::Replaced(3)),
+    ([1, 3, 0, 2], Given::Replaced(3)),
+    ([1, 3, 2, 0], Given::Replaced(3)),
+    ([2, 0, 1, 3], Given::Redundant),
+    ([2, 0, 3, 1], Given::Replaced(3)),
+    ([2, 1, 0, 3], Given::Redundant),
+    ([2, 1, 3, 0], Given::Replaced(3)),
+    ([2, 3, 0, 1], Given::Replaced(3)),
+    ([2, 3, 1, 0], Given::Replaced(3)),
+    ([3, 0, 1, 2], Given::Replaced(3)),
+    ([3, 0, 2, 1], Given::Replaced(3)),
+    ([3, 1, 0, 2], Given::Replaced(3)),
+    ([3, 1, 2, 0], Given::Replaced(3)),
+    ([3, 2, 0, 1], Given::Replaced(3)),
+    ([3, 2, 1, 0], Given::Replaced(3)),
+];
+
 #[test]
 fn orders(rt: HostRuntime) -> Result<(), Fail> {
-    let orders = [
-        ([0, 1, 2, 3], Given::Redundant),
-        ([0, 1, 3, 2], Given::Replaced(3)),
-        ([0, 2, 1, 3], Given::Redundant),
-        ([0, 2, 3, 1], Given::Replaced(3)),
-        ([0, 3, 1, 2], Given::Replaced(3)),
-        ([0, 3, 2, 1], Given::Replaced(3)),
-        ([1, 0, 2, 3], Given::Redundant),
-        ([1, 0, 3, 2], Given::Replaced(3)),
-        ([1, 2, 0, 3], Given::Redundant),
-        ([1, 2, 3, 0], Given::Replaced(3)),
-        ([1, 3, 0, 2], Given::Replaced(3)),
-        ([1, 3, 2, 0], Given::Replaced(3)),
-        ([2, 0, 1, 3], Given::Redundant),
-        ([2, 0, 3, 1], Given::Replaced(3)),
-        ([2, 1, 0, 3], Given::Redundant),
-        ([2, 1, 3, 0], Given::Replaced(3)),
-        ([2, 3, 0, 1], Given::Replaced(3)),
-        ([2, 3, 1, 0], Given::Replaced(3)),
-        ([3, 0, 1, 2], Given::Replaced(3)),
-        ([3, 0, 2, 1], Given::Replaced(3)),
-        ([3, 1, 0, 2], Given::Replaced(3)),
-        ([3, 1, 2, 0], Given::Replaced(3)),
-        ([3, 2, 0, 1], Given::Replaced(3)),
-        ([3, 2, 1, 0], Given::Replaced(3)),
-    ];
-    for (ranks, last) in orders {
+    for (ranks, last) in ORDERS {
         assert_order(&rt, rt.alloc(), ranks, last)?;
     }
     Ok(())
@@ -192,7 +182,6 @@ fn tiles(rt: HostRuntime) -> Result<(), Fail> {
     let left = build_tile(left, 0, &LINKS[2..3]);
     let right = build_tile(right, 1, &LINKS[3..]);
     let whole = join(left, right, 2, &LINKS[..2]);
-    assert_eq!(rt; whole.lots(), [0, 1, 2].as_slice());
-    assert_set(&rt, rt.alloc(), &whole, 15)?;
-    Ok(())
+    assert!(rt; whole.lots() == [0, 1, 2].as_slice());
+    Ok(assert_set(&rt, rt.alloc(), &whole, 15)?)
 }

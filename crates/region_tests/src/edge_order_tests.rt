@@ -6,14 +6,14 @@ use std::test::Fail;
 
 /// Compares the readers of an order with the edges and with their numbers by rank.
 fn compare(rt: &impl Abort, order: &Order, rows: &[(u32, u32, u32)], by_rank: &[u32]) {
-    assert_eq!(rt; order.len() as usize, by_rank.len());
+    assert!(rt; order.len() as usize == by_rank.len());
     for rank in 0..order.len() {
         let number = by_rank[rank as usize];
         assert!(rt; number < order.len() && (number as usize) < rows.len());
         let (u, v, w) = rows[number as usize];
-        assert_eq!(rt; order.edge_at(rank), number);
-        assert_eq!(rt; order.rank_of(number), rank);
-        assert_eq!(rt; order.at(rank), RankedEdge { rank, u, v, w });
+        assert!(rt; order.edge_at(rank) == number);
+        assert!(rt; order.rank_of(number) == rank);
+        assert!(rt; order.at(rank) == RankedEdge { rank, u, v, w });
     }
 }
 

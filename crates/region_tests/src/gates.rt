@@ -42,7 +42,7 @@ impl Gate for Meeting {
 }
 
 // What a worker has done when it passes a gate.
-#[derive(Clone, Copy, Debug, PartialEq, Eq)]
+#[derive(Clone, Copy, PartialEq, Eq)]
 pub(crate) enum Kind {
     Drew,
     Merging,

@@ -31,10 +31,10 @@ impl Job for Meeting {
         let mut text = Vec::new(alloc);
         if job == 0 {
             self.first.meet(&self.second);
-            text.push(b'A').map_err(|_| OutOfMemory)?;
+            text.push(b'A').or(Err(OutOfMemory))?;
         } else {
             self.second.meet(&self.first);
-            text.push(b'B').map_err(|_| OutOfMemory)?;
+            text.push(b'B').or(Err(OutOfMemory))?;
         }
         Ok(text)
     }
@@ -51,7 +51,7 @@ fn two_at_a_time(rt: HostRuntime) -> Result<(), Fail> {
         second: Caller::new(),
     };
     let texts = run_jobs(&rt, rt.alloc(), &meeting, 2)?;
-    assert_eq!(rt; texts.as_slice(), b"AB".as_slice());
+    assert!(rt; texts.as_slice() == b"AB".as_slice());
     assert!(rt; meeting.first.has_met());
     assert!(rt; meeting.second.has_met());
     Ok(())
@@ -68,22 +68,23 @@ fn drawn(shift: &Shift, hands: &mut [Hand], place: usize) -> Option<u32>
     shift.next(&mut hands[place])
 }
 
+// Whose turn it is, and what it draws.
+static WANTED: [(usize, Option<u32>); 5] = [
+    (0, Some(0)),
+    (1, Some(1)),
+    (0, Some(2)),
+    (1, None),
+    (0, None),
+];
+
 #[test]
 fn by_turns(rt: HostRuntime) -> Result<(), Fail> {
     let (shift, mut hands) = Shift::start(rt.alloc(), 3, 2)?;
-    let wanted = [
-        (0, Some(0)),
-        (1, Some(1)),
-        (0, Some(2)),
-        (1, None),
-        (0, None),
-    ];
-    for (place, want) in wanted {
-        let got = drawn(&shift, hands.as_mut_slice(), place);
-        assert_eq!(rt; got, want);
+    for (place, want) in WANTED {
+        assert!(rt; drawn(&shift, hands.as_mut_slice(), place) == want);
     }
     assert!(rt; hands.iter().all(|hand| hand.has_missed()));
     let answer = shift.finish(hands);
-    assert_eq!(rt; answer.as_slice(), [0, 1, 0].as_slice());
+    assert!(rt; answer.as_slice() == [0, 1, 0].as_slice());
     Ok(())
 }

@@ -51,7 +51,7 @@ fn plan_of(
 ) -> Result<Plan, Fail> {
     let graph = graph_of(rt, alloc, n, rows)?;
     let order = Order::of(rt, alloc, &graph)?;
-    Ok(Plan::blocks(alloc, &graph, &order, 2).expect(rt, "ample memory"))
+    Ok(Plan::blocks(alloc, &graph, &order, 2)?)
 }
 
 // Takes a seat out, which has this number.
@@ -65,7 +65,7 @@ fn taken(rt: &impl Abort, board: &Board, seats: &mut Seats, number: u32) -> Seat
     ensures ready { All IsReady seats.new }
 {
     let seat = seats.take().expect(rt, "a seat is in");
-    assert_eq!(rt; seat.number(), number);
+    assert!(rt; seat.number() == number);
     assert!(rt; seat.is_idle() && !seat.has_missed());
     seat
 }
@@ -200,17 +200,24 @@ fn told(rt: &impl Abort, alloc: Global, part: &Part) -> Result<String, AllocErro
     Ok(text)
 }
 
+// A part has what is written here.
+fn tells(rt: &impl Abort, alloc: Global, part: &Part, text: &str) -> Result<(), AllocError> {
+    let told = told(rt, alloc, part)?;
+    assert!(rt; told.as_str() == text);
+    Ok(())
+}
+
 #[test]
 fn two_seats(rt: HostRuntime) -> Result<(), Fail> {
     let plan = plan_of(&rt, rt.alloc(), 4, &CYCLE)?;
     let (board, mut seats) = Board::set_up(rt.alloc(), &plan, 2)?;
-    assert_eq!(rt; seats.count(), 2);
+    assert!(rt; seats.count() == 2);
     let mut first = taken(&rt, &board, &mut seats, 0);
     let mut second = taken(&rt, &board, &mut seats, 1);
     let None = seats.take() else {
         panic!(rt; "a seat is in")
     };
-    assert_eq!(rt; seats.count(), 0);
+    assert!(rt; seats.count() == 0);
     let left = drawn(&rt, &board, &plan, &mut first, 0);
     let right = drawn(&rt, &board, &plan, &mut second, 1);
     arrive_first(&rt, &board, &plan, &mut first, left);
@@ -221,75 +228,67 @@ fn two_seats(rt: HostRuntime) -> Result<(), Fail> {
     put_back(&board, &mut seats, first);
     put_back(&board, &mut seats, second);
     let (part, receipt) = board.close(&plan, seats);
-    assert_eq!(rt; told(&rt, rt.alloc(), &part)?.as_str(), CYCLE_PART);
-    assert_eq!(rt;
-        (receipt.tiles(), receipt.workers(), receipt.edges()),
-        (2, 2, 4)
-    );
-    Ok(())
+    assert!(rt; receipt.tiles() == 2 && receipt.workers() == 2 && receipt.edges() == 4);
+    Ok(tells(&rt, rt.alloc(), &part, CYCLE_PART)?)
 }
 
-// What is told of the part that so many workers make.
-fn made<G: Gate>(
+// So many workers make the part of which this is told.
+fn makes<G: Gate>(
     rt: &(impl Abort + Threads + Sync),
     alloc: Global,
     plan: &Plan,
     workers: u32,
     gate: &G,
-) -> Result<String, Fail>
+    text: &str,
+) -> Result<(), Fail>
     requires some { 1 ≤ workers }
     requires few { workers ≤ 64 }
 {
     let (board, mut seats) = Board::set_up(alloc, plan, workers)?;
     hierarchy(rt, &board, &mut seats, plan, gate);
     let (part, receipt) = board.close(plan, seats);
-    assert_eq!(rt; receipt.workers(), workers);
-    Ok(told(rt, alloc, &part)?)
+    assert!(rt; receipt.workers() == workers);
+    Ok(tells(rt, alloc, &part, text)?)
 }
 
 #[test]
 fn two_at_once(rt: HostRuntime) -> Result<(), Fail> {
     let plan = plan_of(&rt, rt.alloc(), 4, &CYCLE)?;
     let meeting = Meeting::new();
-    let text = made(&rt, rt.alloc(), &plan, 2, &meeting)?;
+    makes(&rt, rt.alloc(), &plan, 2, &meeting, CYCLE_PART)?;
     assert!(rt; meeting.both_met(), "one worker after the other");
-    assert_eq!(rt; text.as_str(), CYCLE_PART);
     Ok(())
 }
 
-// One worker is slow at one kind of event after the other, and the part is always the same.
-fn assert_slow_worker(
-    rt: &(impl Abort + Threads + Sync),
-    alloc: Global,
-    plan: &Plan,
-    workers: u32,
-    slow: u32,
-    text: &str,
-) -> Result<(), Fail>
-    requires some { 1 ≤ workers }
-    requires few { workers ≤ 64 }
-{
-    for kind in [Kind::Drew, Kind::Merging, Kind::Arrived] {
-        let gate = Slow::new(slow, kind);
-        let made = made(rt, alloc, plan, workers, &gate)?;
-        assert_eq!(rt; made.as_str(), text, "{slow} of {workers} at {kind:?}");
-    }
-    Ok(())
-}
+// How many workers there are, which one is slow, and at what.
+static SLOW: [(u32, u32, Kind); 15] = [
+    (2, 0, Kind::Drew),
+    (2, 0, Kind::Merging),
+    (2, 0, Kind::Arrived),
+    (2, 1, Kind::Drew),
+    (2, 1, Kind::Merging),
+    (2, 1, Kind::Arrived),
+    (3, 0, Kind::Drew),
+    (3, 0, Kind::Merging),
+    (3, 0, Kind::Arrived),
+    (3, 1, Kind::Drew),
+    (3, 1, Kind::Merging),
+    (3, 1, Kind::Arrived),
+    (3, 2, Kind::Drew),
+    (3, 2, Kind::Merging),
+    (3, 2, Kind::Arrived),
+];
 
-// Each of so many workers is the slow one in turn.
+// Whichever worker is slow, the part is always the same.
 fn assert_slow(
     rt: &(impl Abort + Threads + Sync),
     alloc: Global,
     plan: &Plan,
-    workers: u32,
     text: &str,
-) -> Result<(), Fail>
-    requires some { 1 ≤ workers }
-    requires few { workers ≤ 64 }
-{
-    for slow in 0..workers {
-        assert_slow_worker(rt, alloc, plan, workers, slow, text)?;
+) -> Result<(), Fail> {
+    for (workers, slow, kind) in SLOW {
+        assert!(rt; 1 <= workers && workers <= 64);
+        makes(rt, alloc, plan, workers, &Slow::new(slow, kind), text)?;
     }
     Ok(())
 }
@@ -297,15 +296,10 @@ fn assert_slow(
 #[test]
 fn slow_workers(rt: HostRuntime) -> Result<(), Fail> {
     let cycle = plan_of(&rt, rt.alloc(), 4, &CYCLE)?;
+    assert!(rt; cycle.tiles() == 2);
+    assert_slow(&rt, rt.alloc(), &cycle, CYCLE_PART)?;
     let path = plan_of(&rt, rt.alloc(), 14, &PATH)?;
-    assert_eq!(rt; (cycle.tiles(), path.tiles()), (2, 7));
-    for workers in 2..=3 {
-        assert_slow(&rt, rt.alloc(), &cycle, workers, CYCLE_PART)?;
-        assert_slow(&rt, rt.alloc(), &path, workers, PATH_PART)?;
-    }
-    assert_eq!(rt;
-        made(&rt, rt.alloc(), &path, 1, &OpenGate)?.as_str(),
-        PATH_PART
-    );
-    Ok(())
+    assert!(rt; path.tiles() == 7);
+    assert_slow(&rt, rt.alloc(), &path, PATH_PART)?;
+    makes(&rt, rt.alloc(), &path, 1, &OpenGate, PATH_PART)
 }

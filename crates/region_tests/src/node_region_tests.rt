@@ -55,11 +55,11 @@ fn check_used(rt: &impl Abort, region: &Region, id: u32, turn: u32)
 fn numbers_are_taken_in_order(rt: HostRuntime) -> Result<(), Fail> {
     let mut small = region(&rt, rt.alloc(), 0, 2, 2, 1);
     for expected in [Some(0), Some(1), None] {
-        assert_eq!(rt; small.take(CELL), expected);
+        assert!(rt; small.take(CELL) == expected);
     }
     check_used(&rt, &small, 0, 1);
     small.give_back(0);
-    assert_eq!(rt; small.take(CELL), Some(0));
+    assert!(rt; small.take(CELL) == Some(0));
     Ok(())
 }
 
@@ -69,18 +69,17 @@ fn free_numbers_run_over_chunks(rt: HostRuntime) -> Result<(), Fail> {
     let two = region(&rt, rt.alloc(), 2, 1, 3, 2);
     let three = region(&rt, rt.alloc(), 3, 2, 2, 1);
     let mut all = append(&rt, one, append(&rt, two, three));
-    assert_eq!(rt;
-        (all.first(), all.count(), all.chunks(), all.free_count()),
-        (0, 5, 3, 5)
-    );
+    assert!(rt; all.first() == 0 && all.count() == 5);
+    assert!(rt; all.chunks() == 3 && all.free_count() == 5);
     for expected in [Some(0), Some(1), Some(2), Some(3), Some(4), None] {
-        assert_eq!(rt; all.take(CELL), expected);
+        assert!(rt; all.take(CELL) == expected);
     }
     check_used(&rt, &all, 3, 1);
     all.give_back(3);
     check_used(&rt, &all, 1, 1);
     all.give_back(1);
-    assert_eq!(rt; (all.take(CELL), all.take(CELL)), (Some(1), Some(3)));
+    assert!(rt; all.take(CELL) == Some(1));
+    assert!(rt; all.take(CELL) == Some(3));
     Ok(())
 }
 
@@ -96,37 +95,24 @@ fn what_is_noted_is_read(rt: HostRuntime) -> Result<(), Fail> {
     region.set_leaf(4, Some(5));
     region.set_finger(4, Some(hint));
     region.set_hint(4, Some(hint));
-    assert_eq!(rt;
-        (region.leaf(4), region.finger(4), region.hint(4)),
-        (Some(5), Some(hint), Some(hint))
-    );
-    assert_eq!(rt;
-        (region.find(hint), region.cell(4), region.turn(4)),
-        (None, None, 0)
-    );
-    assert_eq!(rt; region.take(CELL), Some(4));
-    assert_eq!(rt; region.find(hint), Some(CELL));
+    assert!(rt; region.leaf(4) == Some(5) && region.turn(4) == 0);
+    assert!(rt; region.finger(4) == Some(hint) && region.hint(4) == Some(hint));
+    assert!(rt; region.find(hint) == None && region.cell(4) == None);
+    assert!(rt; region.take(CELL) == Some(4));
+    assert!(rt; region.find(hint) == Some(CELL));
     check_used(&rt, &region, 4, 1);
     let other = Cell {
         rank: 9,
         up: Some(5),
     };
     region.set(4, other);
-    assert_eq!(rt; region.get(4), other);
+    assert!(rt; region.get(4) == other);
     region.give_back(4);
-    assert_eq!(rt;
-        (region.find(hint), region.take(CELL), region.find(hint)),
-        (None, Some(4), None)
-    );
+    assert!(rt; region.find(hint) == None);
+    assert!(rt; region.take(CELL) == Some(4));
+    assert!(rt; region.find(hint) == None);
     check_covered(&rt, &region, 4);
-    assert_eq!(rt;
-        (
-            region.hint(4),
-            region.turn(4),
-            region.cell(4),
-            region.leaf(4)
-        ),
-        (None, 2, Some(CELL), Some(5))
-    );
+    assert!(rt; region.hint(4) == None && region.turn(4) == 2);
+    assert!(rt; region.cell(4) == Some(CELL) && region.leaf(4) == Some(5));
     Ok(())
 }

@@ -3,7 +3,7 @@ ghost use Rattle.edge_order.specs.Order.{order_of};
 
 use crate::graphs::graph_of;
 use edge_order::Order;
-use hg_base::{Graph, PlacedEdge, Room};
+use hg_base::{Graph, PlacedEdge};
 use std::alloc::{AllocError, Global};
 use std::process::Abort;
 use std::test::Fail;
@@ -24,49 +24,85 @@ const PICTURE: [(u32, u32, u32); 10] = [
     (6, 7, 0),
 ];
 
+// What a plan tells of a part.
+struct Told {
+    range: (u32, u32),
+    parent: Option<(u32, Side)>,
+    edges: usize,
+}
+
+// The two squares, and both together.
+static PARTS: [Told; 3] = [
+    Told {
+        range: (0, 4),
+        parent: Some((2, Side::Left)),
+        edges: 4,
+    },
+    Told {
+        range: (4, 4),
+        parent: Some((2, Side::Right)),
+        edges: 4,
+    },
+    Told {
+        range: (0, 8),
+        parent: None,
+        edges: 2,
+    },
+];
+
+// The edges between the two squares.
+const LOT: [PlacedEdge; 2] = [
+    PlacedEdge {
+        rank: 2,
+        a: 1,
+        b: 4,
+    },
+    PlacedEdge {
+        rank: 8,
+        a: 3,
+        b: 6,
+    },
+];
+
+// The vertex at each place.
+static VERTICES: [u32; 8] = [0, 1, 4, 5, 2, 3, 6, 7];
+
+// Compares the places of a plan of eight vertices.
+fn compare_places(rt: &impl Abort, plan: &Plan) {
+    assert!(rt; plan.n() == 8);
+    for place in 0..8 {
+        let vertex = VERTICES[place as usize];
+        assert!(rt; vertex < 8);
+        assert!(rt; plan.vertex_at(place) == vertex);
+        assert!(rt; plan.place_of(vertex) == place);
+    }
+}
+
+// Compares what a plan of two squares tells of each part.
+fn compare_parts(rt: &impl Abort, plan: &Plan) {
+    assert!(rt; plan.root() == 2);
+    for part in 0..3 {
+        let told = &PARTS[part as usize];
+        assert!(rt; plan.range(part) == told.range);
+        assert!(rt; plan.parent(part) == told.parent);
+        assert!(rt; plan.lot(part).len() == told.edges);
+    }
+}
+
 #[test]
 fn two_squares(rt: HostRuntime) -> Result<(), Fail> {
     let graph = graph_of(&rt, rt.alloc(), 8, &PICTURE)?;
-    let order = Order::of(&rt, rt.alloc(), &graph).expect(&rt, "ample memory");
+    let order = Order::of(&rt, rt.alloc(), &graph)?;
     assert!(rt; graph.n() == 8);
-    let plan = Plan::squares(rt.alloc(), &graph, &order, 4, 2, 2).expect(&rt, "ample memory");
-    assert_eq!(rt; (plan.tiles(), plan.n(), plan.root()), (2, 8, 2));
-    for (place, vertex) in [0, 1, 4, 5, 2, 3, 6, 7].into_iter().enumerate() {
-        assert_eq!(rt; plan.vertex_at(place as u32), vertex);
-        assert_eq!(rt; plan.place_of(vertex), place as u32);
-    }
-    assert_eq!(rt; plan.children(2), (0, 1));
-    assert_eq!(rt; plan.parent(0), Some((2, Side::Left)));
-    assert_eq!(rt; plan.parent(1), Some((2, Side::Right)));
-    assert_eq!(rt; plan.parent(2), None);
-    assert_eq!(rt;
-        (plan.range(0), plan.range(1), plan.range(2)),
-        ((0, 4), (4, 4), (0, 8))
-    );
-    let room = Room {
-        places: 8,
-        chunks: 2,
-    };
-    assert_eq!(rt; plan.room_of(0), room);
-    let room = Room {
-        places: 4,
-        chunks: 1,
-    };
-    assert_eq!(rt; plan.room_of(1), room);
-    let lot = [
-        PlacedEdge {
-            rank: 2,
-            a: 1,
-            b: 4,
-        },
-        PlacedEdge {
-            rank: 8,
-            a: 3,
-            b: 6,
-        },
-    ];
-    assert_eq!(rt; plan.lot(2), lot.as_slice());
-    assert_eq!(rt; (plan.lot(0).len(), plan.lot(1).len()), (4, 4));
+    let plan = Plan::squares(rt.alloc(), &graph, &order, 4, 2, 2)?;
+    compare_places(&rt, &plan);
+    compare_parts(&rt, &plan);
+    assert!(rt; plan.tiles() == 2);
+    assert!(rt; plan.children(2) == (0, 1));
+    assert!(rt; plan.lot(2) == LOT.as_slice());
+    let rooms = [plan.room_of(0), plan.room_of(1)];
+    assert!(rt; (rooms[0].places, rooms[0].chunks) == (8, 2));
+    assert!(rt; (rooms[1].places, rooms[1].chunks) == (4, 1));
     Ok(())
 }
 
@@ -81,7 +117,7 @@ fn tiles(
     requires few { n ≤ 1048576 }
 {
     let graph = Graph::new(n, Vec::new(alloc));
-    let order = Order::of(rt, alloc, &graph).map_err(|_| PlanFault::OutOfMemory)?;
+    let order = Order::of(rt, alloc, &graph).or(Err(PlanFault::OutOfMemory))?;
     let Some((width, height, tile)) = shape else {
         return Ok(Plan::blocks(alloc, &graph, &order, 1)?.tiles());
     };
@@ -89,22 +125,24 @@ fn tiles(
     Ok(Plan::squares(alloc, &graph, &order, width, height, tile)?.tiles())
 }
 
-#[test]
-fn at_most_65536_tiles(rt: HostRuntime) {
-    assert_eq!(rt; tiles(&rt, rt.alloc(), 1, None), Ok(1));
-    assert_eq!(rt; tiles(&rt, rt.alloc(), 65536, None), Ok(65536));
-    assert_eq!(rt;
-        tiles(&rt, rt.alloc(), 65537, None),
-        Err(PlanFault::TooManyTiles(65537))
-    );
-}
+// How many vertices there are, their picture and the side of its squares, and how many tiles.
+static TILES: [(u32, Option<(u32, u32, u32)>, Result<u32, PlanFault>); 5] = [
+    (1, None, Ok(1)),
+    (65536, None, Ok(65536)),
+    (65537, None, Err(PlanFault::TooManyTiles(65537))),
+    (
+        262144,
+        Some((512, 512, 1)),
+        Err(PlanFault::TooManyTiles(262144)),
+    ),
+    (262144, Some((512, 512, 64)), Ok(64)),
+];
 
 #[test]
-fn tiles_of_a_large_picture(rt: HostRuntime) {
-    let rows = [(1, Err(PlanFault::TooManyTiles(262144))), (64, Ok(64))];
-    for (side, answer) in rows {
-        let shape = Some((512, 512, side));
-        assert_eq!(rt; tiles(&rt, rt.alloc(), 262144, shape), answer);
+fn at_most_65536_tiles(rt: HostRuntime) {
+    for (n, shape, answer) in TILES {
+        assert!(rt; 1 <= n && n <= 1048576);
+        assert!(rt; tiles(&rt, rt.alloc(), n, shape) == answer);
     }
 }
 
@@ -118,20 +156,23 @@ fn path(rt: &impl Abort, alloc: Global, n: u32) -> Result<Graph, AllocError> {
     graph_of(rt, alloc, n, &rows)
 }
 
+// Compares the parts of two plans.
+fn compare_ranges(rt: &impl Abort, one: &Plan, other: &Plan) {
+    let root = one.root();
+    assert!(rt; root == other.root());
+    for part in 0..=root {
+        assert!(rt; one.range(part) == other.range(part));
+        assert!(rt; one.lot(part) == other.lot(part));
+    }
+}
+
 // Compares what two plans tell.
 fn compare(rt: &impl Abort, one: &Plan, other: &Plan) {
-    assert_eq!(rt;
-        (one.tiles(), one.n(), one.root()),
-        (other.tiles(), other.n(), other.root())
-    );
-    for part in 0..=one.root() {
-        assert!(rt; part <= one.root() && part <= other.root());
-        assert_eq!(rt; one.range(part), other.range(part));
-        assert_eq!(rt; one.lot(part), other.lot(part));
-    }
+    assert!(rt; one.tiles() == other.tiles());
+    assert!(rt; one.n() == other.n());
+    compare_ranges(rt, one, other);
     for vertex in 0..one.n() {
-        assert!(rt; vertex < one.n() && vertex < other.n());
-        assert_eq!(rt; one.place_of(vertex), other.place_of(vertex));
+        assert!(rt; one.place_of(vertex) == other.place_of(vertex));
     }
 }
 
@@ -142,7 +183,7 @@ fn compare_blocks(
     graph: &Graph,
     order: &Order,
     tile: u32,
-) -> Result<(), PlanFault>
+) -> Result<(), Fail>
     requires tile { 1 ≤ tile }
     requires order { order.now ≡ order_of graph.now }
 {
@@ -161,7 +202,7 @@ fn compare_squares(
     width: u32,
     height: u32,
     tile: u32,
-) -> Result<(), PlanFault>
+) -> Result<(), Fail>
     requires tile { 1 ≤ tile }
     requires order { order.now ≡ order_of graph.now }
     requires pixels { width * height ≡ graph.now.n }
@@ -178,18 +219,18 @@ fn compare_forms(
     alloc: Global,
     (width, height): (u32, u32),
     tile: u32,
-) -> Result<(), PlanFault> {
+) -> Result<(), Fail> {
     assert!(rt; 1 <= tile && 1 <= width && 1 <= height);
     assert!(rt; u64::from(width) * u64::from(height) <= 65536);
-    let graph = path(rt, alloc, width * height).map_err(|_| PlanFault::OutOfMemory)?;
-    let order = Order::of(rt, alloc, &graph).map_err(|_| PlanFault::OutOfMemory)?;
+    let graph = path(rt, alloc, width * height)?;
+    let order = Order::of(rt, alloc, &graph)?;
     assert!(rt; width * height == graph.n());
     compare_blocks(rt, alloc, &graph, &order, tile)?;
     compare_squares(rt, alloc, &graph, &order, width, height, tile)
 }
 
 #[test]
-fn the_same_in_threads(rt: HostRuntime) {
+fn the_same_in_threads(rt: HostRuntime) -> Result<(), Fail> {
     for (picture, tile) in [
         ((1, 1), 1),
         ((2, 1), 1),
@@ -197,6 +238,7 @@ fn the_same_in_threads(rt: HostRuntime) {
         ((64, 63), 5),
         ((160, 128), 5),
     ] {
-        assert_eq!(rt; compare_forms(&rt, rt.alloc(), picture, tile), Ok(()));
+        compare_forms(&rt, rt.alloc(), picture, tile)?;
     }
+    Ok(())
 }

@@ -6,7 +6,7 @@ use std::process::Abort;
 use std::test::Fail;
 use std::thread::Threads;
 
-const TWO: &str = "graph 2 1\n0 1 7\n\x0cgraph 2 1\n0 0 3\n";
+const TWO: &[u8] = b"graph 2 1\n0 1 7\n\x0cgraph 2 1\n0 0 3\n";
 
 const TWO_TEXTS: &str = "job 0 0 27\ntree 3 2\n0 2 0\n1 2 0\n2 2 7\njob 1 3 7 Loop 12 0\n";
 
@@ -41,24 +41,51 @@ fn runs(
     let mut out = sink_of(alloc)?;
     let mut err = sink_of(alloc)?;
     let status = run_batch(rt, alloc, &words, &mut source, &mut out, &mut err);
-    assert_eq!(rt; status.code(), want.0);
-    assert_eq!(rt; out.taken(), want.1.as_bytes());
-    assert_eq!(rt; err.taken(), want.2.as_bytes());
+    assert!(rt; status.code() == want.0);
+    assert!(rt; out.taken() == want.1.as_bytes());
+    assert!(rt; err.taken() == want.2.as_bytes());
     Ok(())
 }
 
+// As many cuts as make one job too many.
+const CUTS: [u8; 4096] = [12; 4096];
+
+// Words and an input, with the code, the texts and the fault line that are wanted.
+static RUNS: [(&[&str], &[u8], (u8, &str, &str)); 8] = [
+    (&["tree", "--workers", "1"], TWO, (0, TWO_TEXTS, "")),
+    (&["tree", "--workers", "2"], TWO, (0, TWO_TEXTS, "")),
+    (&["tree", "--workers", "64"], TWO, (0, TWO_TEXTS, "")),
+    (&["tree"], b"", (0, "job 0 3 1 UnknownForm 0 0\n", "")),
+    (
+        &["tree"],
+        &CUTS,
+        (3, "", "higra: input 15 TooManyJobs at 0 value 4097\n"),
+    ),
+    (
+        &["tree"],
+        b"graph 1048576 0\x0cgraph 1048576 0\x0cgraph 1048576 0\x0cgraph 1048576 0\x0cgraph 1048576 0",
+        (
+            3,
+            "",
+            "higra: input 16 TooManyVertices at 0 value 5242880\n",
+        ),
+    ),
+    (&["cut", "--form", "pgm"], TWO, (2, "", "higra: usage\n")),
+    (&["tree", "--make", "2"], TWO, (2, "", "higra: usage\n")),
+];
+
 #[test]
-fn two_lists(rt: HostRuntime) -> Result<(), Fail> {
-    for workers in ["1", "2", "64"] {
-        let words = ["tree", "--workers", workers];
-        runs(&rt, rt.alloc(), &words, TWO.as_bytes(), (0, TWO_TEXTS, ""))?;
+fn lists(rt: HostRuntime) -> Result<(), Fail> {
+    for (words, input, want) in RUNS {
+        runs(&rt, rt.alloc(), words, input, want)?;
     }
     Ok(())
 }
 
+static SPACES: [u8; 40_000] = [b' '; 40_000];
+
 // Lists of many spaces, so long that two workers or more read them side by side. The last piece is empty.
 fn long_lists(alloc: Global) -> Result<Vec<u8>, AllocError> {
-    let spaces = Vec::from_elem(alloc, b' ', 40_000)?;
     let mut bytes = Vec::new(alloc);
     for list in [
         "graph 2 1\n0 1 7\n",
@@ -67,53 +94,21 @@ fn long_lists(alloc: Global) -> Result<Vec<u8>, AllocError> {
         "tree\n",
     ] {
         bytes.extend_from_slice(list.as_bytes())?;
-        bytes.extend_from_slice(&spaces)?;
+        bytes.extend_from_slice(&SPACES)?;
         bytes.push(12)?;
     }
     Ok(bytes)
 }
 
+const LONG_TEXTS: &str =
+    "job 0 0 27\ntree 3 2\n0 2 0\n1 2 0\n2 2 7\njob 1 3 7 Loop 12 0\njob 2 0 27\ntree 3 2\n0 2 0\n1 2 0\n2 2 9\njob 3 3 1 UnknownForm 0 0\njob 4 3 1 UnknownForm 0 0\n";
+
 #[test]
 fn read_side_by_side(rt: HostRuntime) -> Result<(), Fail> {
     let bytes = long_lists(rt.alloc())?;
-    let texts =
-        "job 0 0 27\ntree 3 2\n0 2 0\n1 2 0\n2 2 7\njob 1 3 7 Loop 12 0\njob 2 0 27\ntree 3 2\n0 2 0\n1 2 0\n2 2 9\njob 3 3 1 UnknownForm 0 0\njob 4 3 1 UnknownForm 0 0\n";
     for workers in ["1", "3", "64"] {
         let words = ["tree", "--workers", workers];
-        runs(&rt, rt.alloc(), &words, &bytes, (0, texts, ""))?;
+        runs(&rt, rt.alloc(), &words, &bytes, (0, LONG_TEXTS, ""))?;
     }
     Ok(())
-}
-
-#[test]
-fn refused_or_empty(rt: HostRuntime) -> Result<(), Fail> {
-    let alloc = rt.alloc();
-    runs(
-        &rt,
-        alloc,
-        &["tree"],
-        b"",
-        (0, "job 0 3 1 UnknownForm 0 0\n", ""),
-    )?;
-    let cuts = Vec::from_elem(alloc, 12u8, 4096)?;
-    let line = "higra: input 15 TooManyJobs at 0 value 4097\n";
-    runs(&rt, alloc, &["tree"], &cuts, (3, "", line))?;
-    let large =
-        b"graph 1048576 0\x0cgraph 1048576 0\x0cgraph 1048576 0\x0cgraph 1048576 0\x0cgraph 1048576 0";
-    let line = "higra: input 16 TooManyVertices at 0 value 5242880\n";
-    runs(&rt, alloc, &["tree"], large, (3, "", line))?;
-    runs(
-        &rt,
-        alloc,
-        &["cut", "--form", "pgm"],
-        TWO.as_bytes(),
-        (2, "", "higra: usage\n"),
-    )?;
-    runs(
-        &rt,
-        alloc,
-        &["tree", "--make", "2"],
-        TWO.as_bytes(),
-        (2, "", "higra: usage\n"),
-    )
 }

@@ -89,7 +89,7 @@ of-at pool (id ∷ ids) (f ∷ es) a zero e eq = let same : f ≡ e = cc in subs
 of-at pool (id ∷ ids) (f ∷ es) a (suc i) e eq = of-at pool ids es a.1 i e eq
 
 -- one more rank: a cell is noted at it, of a joining edge, or none is and no edge of this rank joins
-in_rank-step : (part : PartState) (s : EdgeList) (cells : List (Option ℕ)) → Stands part s → AreByRank part.region cells → (k : ℕ) → AreOf part.region (in_rank cells k) (below (joins s) k) →
+in_rank-step : (part : PartState) (s : EdgeList) (cells : List ℕ) → Stands part s → AreByRank part.region cells → (k : ℕ) → AreOf part.region (in_rank cells k) (below (joins s) k) →
     (o : Option ℕ) → noted cells k ≡ o → AreOf part.region (in_rank cells (suc k)) (below (joins s) (suc k))
 in_rank-step part s cells st b k before None eq =
     let none' : below (joins s) (suc k) ≡ below (joins s) k = below-missing (joins s) k (λ e i level. missing e i level) in
@@ -118,7 +118,7 @@ nothing-below [] = refl
 nothing-below (e ∷ t) = rw (le-ltb e.rank 0 (omega arith)) (nothing-below t)
 
 -- the cells in rising rank are those of the joining edges
-pub in_rank-of : (part : PartState) (s : EdgeList) (cells : List (Option ℕ)) → Stands part s → AreByRank part.region cells → (k : ℕ) → AreOf part.region (in_rank cells k) (below (joins s) k)
+pub in_rank-of : (part : PartState) (s : EdgeList) (cells : List ℕ) → Stands part s → AreByRank part.region cells → (k : ℕ) → AreOf part.region (in_rank cells k) (below (joins s) k)
 in_rank-of part s cells st b zero = subst (λ (l : EdgeList). AreOf part.region [] l) (sym (nothing-below (joins s))) tt
 in_rank-of part s cells st b (suc k) = in_rank-step part s cells st b k (in_rank-of part s cells st b k) (noted cells k) refl
 
@@ -128,7 +128,7 @@ pub record IsNumbering (part : PartState) (s : EdgeList) (n : ℕ) (made numbers
   pub made_of : AreOf part.region made (joins s)
   pub numbers_of : AreNodeNumbers n made numbers
 
-pub numbering-of : (part : PartState) (s : EdgeList) (n m : ℕ) (cells : List (Option ℕ)) (made numbers : List ℕ) → Stands part s → ((e : ListedEdge) → IsIn e s → e.rank < m) →
+pub numbering-of : (part : PartState) (s : EdgeList) (n m : ℕ) (cells : List ℕ) (made numbers : List ℕ) → Stands part s → ((e : ListedEdge) → IsIn e s → e.rank < m) →
     AreByRank part.region cells → made ≡ in_rank cells m → AreNodeNumbers n made numbers → IsNumbering part s n made numbers
 numbering-of part s n m cells made numbers st low b is nums = record {
   stands = st;
